@@ -1,0 +1,5 @@
+mod Bits
+mod Sets
+mod Rows
+mod Least
+mod Listing

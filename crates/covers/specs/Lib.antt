@@ -1,0 +1,4 @@
+pub mod Sets
+pub mod Plans
+pub mod Answers
+pub mod Theorems

@@ -1,0 +1,24 @@
+-- Sets of tests. A set is a number: the test at place j, counted from 0, counts 2 ^ j. The user's test 1 is at place 0.
+use Prim.Native.Nat.{ℕ, _%_, _/_, _^_}
+use mathlib.Core.Logic.{_≢_}
+use mathlib.Core.Path.{_≡_}
+
+-- the digit of s at place j
+abbrev pub bit : ℕ → ℕ → ℕ
+bit j s = s / 2 ^ j % 2
+
+-- s has the test at place j
+abbrev pub Has : ℕ → ℕ → Type 0
+Has j s = bit j s ≡ 1
+
+-- every test of t is in s: t is a subset of s
+abbrev pub Within : ℕ → ℕ → Type 0
+Within t s = (j : ℕ) → Has j t → Has j s
+
+-- a subset that is not the whole
+abbrev pub Proper : ℕ → ℕ → Type 0
+Proper t s = Within t s × (t ≢ s)
+
+-- s and t have a test in common
+abbrev pub Shares : ℕ → ℕ → Type 0
+Shares s t = (j : ℕ) × Has j s × Has j t
