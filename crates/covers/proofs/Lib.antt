@@ -2,4 +2,7 @@ mod Bits
 mod Sets
 mod Rows
 mod Least
-mod Listing
+mod PlanLists
+mod Scans
+mod Divisions
+mod Calls

@@ -1,4 +1,6 @@
 pub mod Sets
 pub mod Plans
+pub mod Scans
+pub mod Divisions
 pub mod Answers
 pub mod Theorems
