@@ -3,7 +3,7 @@ use Prim.Native.Nat.{ℕ, zero, suc, _+_, _-_, _*_, _/_, _%_, _^_, _<_, _≤_}
 use Rattle.covers.proofs.Bits.{some-bit}
 use Rattle.covers.proofs.PlanLists.{plans-list}
 use Rattle.covers.proofs.Sets.{below-place}
-use Rattle.covers.specs.Answers.{answered, checked, coverFault, listed, over, wideRow}
+use Rattle.covers.specs.Answers.{coverFault, listed, over, wideRow}
 use Rattle.covers.specs.Divisions.{Apart}
 use Rattle.covers.specs.Plans.{plansOf}
 use Rattle.covers.specs.Sets.{Has}
@@ -14,10 +14,9 @@ use Rattle.std.proofs.shelf.Bits.{le-div}
 use Rattle.std.proofs.shelf.Elements.{all-weaker}
 use Rattle.std.proofs.shelf.Lists.{at-drop-all, at-drop-more, drop-replicate}
 use Rattle.std.proofs.shelf.Tests.{both-ways, and-from, and-left, and-parts, and-right, cond-false, cond-true, le-leb, leb-true, lt-leb, lt-ltb, le-ltb, ltb-true, ltb-false}
-use Rattle.std.specs.Results.{Cases}
+use Rattle.std.specs.Options.{Cases}
 use Rattle.std.specs.declared.option.Option.the-variants.{None, Some}
 use Rattle.std.specs.declared.option.Option.{Option}
-use Rattle.std.specs.declared.result.Result.the-variants.{Err, Ok}
 use Rattle.std.specs.shelf.Lists.{All}
 use lib.Dec.{leb, ltb}
 use lib.ListN.{drop, getD, length, length-replicate, replicate, take}
@@ -109,11 +108,10 @@ found-some width k (row ∷ rows) fault e = go (ltb row (2 ^ width)) refl e (fou
         let same : fault ≡ Row k = cc in
         (0, same ∙ ap Row place, omega arith, ltb-false row (2 ^ width) t, tt)
 
--- what an answer says of the width and the rows
-pub fault-means : (width : ℕ) (rows : List ℕ) (places : ℕ) (plans : List ℕ)
-    → Cases (answered (coverFault width rows) places plans) (λ _. Opened width rows) (RefusedWith width rows)
+-- what the first fault, or none, says of the width and the rows
+pub fault-means : (width : ℕ) (rows : List ℕ) → Cases (coverFault width rows) (Opened width rows) (RefusedWith width rows)
 unfolding coverFault
-fault-means width rows places plans = tested (leb 1 width && leb width 24) refl
+fault-means width rows = tested (leb 1 width && leb width 24) refl
   where
     opened : Fair width → wideRow width 0 rows ≡ None → Opened width rows
     opened f e = record {
@@ -129,37 +127,16 @@ fault-means width rows places plans = tested (leb 1 width && leb width 24) refl
         subst (RefusedWith width rows) (sym same)
         (f, r .2, wide width (getD rows (r .0) 0) (r .3), all-weaker (λ row. row < 2 ^ width) (λ row. Wide width row → ⊥) (narrow width) (take (r .0) rows) (r .4))
 
-    searched : Fair width → (o : Option CoverFault) → wideRow width 0 rows ≡ o → Cases (answered o places plans) (λ _. Opened width rows) (RefusedWith width rows)
+    searched : Fair width → (o : Option CoverFault) → wideRow width 0 rows ≡ o → Cases o (Opened width rows) (RefusedWith width rows)
     searched f None e = opened f e
     searched f (Some fault) e = refused f fault e
 
     unfair : (leb 1 width && leb width 24) ≡ false → Fair width → ⊥
     unfair e (l, u) = both-ways (leb 1 width && leb width 24) e (and-from (leb 1 width) (leb width 24) (le-leb 1 width l) (le-leb width 24 u))
 
-    tested : (b : Bool) → (leb 1 width && leb width 24) ≡ b → Cases (answered (cond b (wideRow width 0 rows) (Some Width)) places plans) (λ _. Opened width rows) (RefusedWith width rows)
+    tested : (b : Bool) → (leb 1 width && leb width 24) ≡ b → Cases (cond b (wideRow width 0 rows) (Some Width)) (Opened width rows) (RefusedWith width rows)
     tested true e = let p = and-parts (leb 1 width) (leb width 24) e in searched (leb-true 1 width (p .0), leb-true width 24 (p .1)) (wideRow width 0 rows) refl
     tested false e = unfair e
-
--- the fault behind an answer of the check
-pub fault-none : (o : Option CoverFault) (x : Unit {0}) → Ok x ≡ checked o → o ≡ None
-fault-none None x e = refl
-fault-none (Some fault) x e = cc
-
-pub fault-some : (o : Option CoverFault) (fault : CoverFault) → Err fault ≡ checked o → o ≡ Some fault
-fault-some None fault e = cc
-fault-some (Some f) fault e = cc
-
--- an accepted width
-pub fair-width : (width : ℕ) (rows : List ℕ) → coverFault width rows ≡ None → width ≤ 24
-unfolding coverFault
-fair-width width rows = go (leb 1 width && leb width 24) refl
-  where
-    go : (b : Bool) → (leb 1 width && leb width 24) ≡ b → cond b (wideRow width 0 rows) (Some Width) ≡ None → width ≤ 24
-    go true e f = leb-true width 24 (and-parts (leb 1 width) (leb width 24) e .1)
-    go false e f = let z : _≡_ {A = ℕ} 0 1 = cc in absurd (clash z)
-      where
-        clash : _≡_ {A = ℕ} 0 1 → ⊥
-        clash q = omega arith
 
 -- ---- the list
 

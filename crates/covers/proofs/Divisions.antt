@@ -1,21 +1,20 @@
 -- A node of the division: where it has no plan, where it has one, and how it is the sum of its two halves.
 use Prim.Native.Nat.{ℕ, zero, suc, _+_, _-_, _*_, _/_, _^_, _<_, _≤_}
 use Rattle.covers.proofs.Least.{own-down, own-least, owned-plan, plan-owned, plan-sound}
-use Rattle.covers.proofs.PlanLists.{kept-none, plans-split}
+use Rattle.covers.proofs.PlanLists.{kept-none, plans-few, plans-split}
 use Rattle.covers.proofs.Rows.{covers-complete, covers-sound, covers-up}
 use Rattle.covers.proofs.Sets.{and-parts, or-cases, or-has}
-use Rattle.covers.specs.Divisions.{Apart}
+use Rattle.covers.specs.Divisions.{Apart, Halves}
 use Rattle.covers.specs.Plans.{Covers, covers, isPlan, owned, plansIn}
-use Rattle.covers.specs.Scans.{Scanned}
 use Rattle.covers.specs.Sets.{Has, Within, bit}
-use Rattle.std.proofs.shelf.Tests.{both-ways, not-false}
+use Rattle.std.proofs.shelf.Tests.{both-ways}
 use Rattle.std.specs.Iters.{counting}
 use Rattle.std.specs.shelf.Lists.{kept-by}
 use lib.Bits.{and-mask, bitAnd, bitOr, or-shifted, or-zero-r}
-use lib.ListN.{length, set}
+use lib.ListN.{length, length-append, set}
 use lib.Pow.{pow-pos}
 use lib.Seq.{sets}
-use mathlib.Core.Bool.{Bool, cond, false, not, true}
+use mathlib.Core.Bool.{Bool, cond, false, true}
 use mathlib.Core.List.{List, [], _∷_, _++_}
 use mathlib.Core.Logic.{_≢_, inl, inr, ⊎-elim}
 use mathlib.Core.Path.{_≡_, refl, sym, ap, subst, _∙_}
@@ -94,19 +93,19 @@ module _ (rows : List ℕ) (chosen undecided : ℕ) (node : Apart chosen undecid
   pub some-undecided : covers rows chosen ≡ false → covers rows (bitOr chosen undecided) ≡ true → undecided ≢ 0
   some-undecided n c z = both-ways (covers rows chosen) n (ap (covers rows) (sym (ap (bitOr chosen) z ∙ or-zero-r chosen)) ∙ c)
 
--- the two halves of a node, by its highest undecided test
-pub record Halves (chosen undecided : ℕ) : Type 0 where
-  pub size : undecided + 1 ≡ (undecided / 2 + 1) + (undecided / 2 + 1)
-  pub taken : bitOr chosen (undecided / 2 + 1) ≡ chosen + (undecided / 2 + 1)
-  pub left : Apart chosen (undecided / 2)
-  pub right : Apart (bitOr chosen (undecided / 2 + 1)) (undecided / 2)
+-- the two halves in numbers
+record Split (chosen undecided : ℕ) : Type 0 where
+  size : undecided + 1 ≡ (undecided / 2 + 1) + (undecided / 2 + 1)
+  taken : bitOr chosen (undecided / 2 + 1) ≡ chosen + (undecided / 2 + 1)
+  without : Apart chosen (undecided / 2)
+  with-it : Apart (bitOr chosen (undecided / 2 + 1)) (undecided / 2)
 
-pub halves : (chosen undecided : ℕ) → Apart chosen undecided → undecided ≢ 0 → Halves chosen undecided
-halves chosen undecided node some = go (node .place) (node .chosen-is) (node .undecided-is)
+split : (chosen undecided : ℕ) → Apart chosen undecided → undecided ≢ 0 → Split chosen undecided
+split chosen undecided node some = go (node .place) (node .chosen-is) (node .undecided-is)
   where
-    go : (k : ℕ) → chosen ≡ node .base * 2 ^ k → undecided + 1 ≡ 2 ^ k → Halves chosen undecided
+    go : (k : ℕ) → chosen ≡ node .base * 2 ^ k → undecided + 1 ≡ 2 ^ k → Split chosen undecided
     go zero ce ue = absurd (some (omega arith))
-    go (suc k) ce ue = record { size = size-is; taken = taken-is; left = left-is; right = right-is }
+    go (suc k) ce ue = record { size = size-is; taken = taken-is; without = left-is; with-it = right-is }
       where
         power : 2 ^ suc k ≡ 2 ^ k * 2
         power = pow-suc 2 k
@@ -134,16 +133,28 @@ halves chosen undecided node some = go (node .place) (node .chosen-is) (node .un
             above : chosen + (undecided / 2 + 1) ≡ (node .base * 2 + 1) * 2 ^ k
             above = omega (arith, twice, half)
 
-pub plans-halves : (rows : List ℕ) (chosen undecided : ℕ) → Halves chosen undecided
-    → plansIn rows chosen (undecided + 1) ≡ plansIn rows chosen (undecided / 2 + 1) ++ plansIn rows (bitOr chosen (undecided / 2 + 1)) (undecided / 2 + 1)
-plans-halves rows chosen undecided h =
-    ap (plansIn rows chosen) (h .size)
-    ∙ plans-split rows chosen (undecided / 2 + 1) (undecided / 2 + 1)
-    ∙ ap (λ (x : ℕ). plansIn rows chosen (undecided / 2 + 1) ++ plansIn rows x (undecided / 2 + 1)) (sym (h .taken))
+pub halves : (rows : List ℕ) (chosen undecided : ℕ) → Apart chosen undecided → undecided ≢ 0 → Halves rows chosen undecided
+halves rows chosen undecided node some = record {
+  size = s .size;
+  taken = s .taken;
+  without = s .without;
+  with-it = s .with-it;
+  few = plans-few rows chosen (undecided / 2 + 1);
+  counted = ap length both ∙ length-append left right;
+  written = λ list count. ap (sets list count) both ∙ sets-append list count left right;
+}
+  where
+    s : Split chosen undecided
+    s = split chosen undecided node some
 
--- a node that is neither pruned nor a stop has two halves
-pub node-halves : (rows : List ℕ) (chosen undecided : ℕ) → Apart chosen undecided → (coverable covered : Bool) (own : ℕ)
-    → Scanned rows chosen (bitOr chosen undecided) coverable covered own → not coverable ≡ false → covered ≡ false → Halves chosen undecided
-node-halves rows chosen undecided node coverable covered own scanned reach left =
-    halves chosen undecided node
-    (some-undecided rows chosen undecided node (sym (scanned .does) ∙ left) (sym (scanned .can) ∙ not-false coverable reach))
+    left : List ℕ
+    left = plansIn rows chosen (undecided / 2 + 1)
+
+    right : List ℕ
+    right = plansIn rows (bitOr chosen (undecided / 2 + 1)) (undecided / 2 + 1)
+
+    both : plansIn rows chosen (undecided + 1) ≡ left ++ right
+    both =
+        ap (plansIn rows chosen) (s .size)
+        ∙ plans-split rows chosen (undecided / 2 + 1) (undecided / 2 + 1)
+        ∙ ap (λ (x : ℕ). left ++ plansIn rows x (undecided / 2 + 1)) (sym (s .taken))

@@ -46,8 +46,3 @@ answered (Some fault) places plans = Err fault
 abbrev pub filled : Option CoverFault → List ℕ → List ℕ → List ℕ
 filled None list plans = listed (length list) plans
 filled (Some fault) list plans = list
-
--- accepted, unless there is a fault
-abbrev pub checked : Option CoverFault → Result (Unit {0}) CoverFault
-checked None = Ok tt
-checked (Some fault) = Err fault

@@ -14,3 +14,5 @@ pub mod listing;
 
 // the core of a matrix
 pub mod lonely;
+#[cfg(test)]
+mod tests;

@@ -1,9 +1,10 @@
 // The cover call: all minimal covers of a matrix into the caller's list.
 
 ghost use Prim.Native.Nat.{_^_, _≤_};
-ghost use Rattle.covers.specs.Answers.{answered, checked, coverFault, filled, listed, over};
+ghost use Rattle.covers.specs.Answers.{answered, coverFault, filled, listed, over};
 ghost use Rattle.covers.specs.Plans.{plansOf};
 ghost use Rattle.covers.specs.Theorems.{Lists, Opened, RefusedWith};
+ghost use Rattle.std.specs.Options.{Cases as BySome};
 ghost use Rattle.std.specs.Results.{Cases};
 ghost use lib.ListN.{length, replicate};
 ghost use mathlib.Core.Path.{_≡_};
@@ -17,26 +18,29 @@ const WIDEST: u32 = 24;
 pub fn cover(width: u32, rows: &[u32], list: &mut [u32]) -> Result<(u32, u32), CoverFault>
     ensures answer { λ r. ⌜ r ≡ answered (coverFault width (now (rows .entry))) (length (now (list .entry))) (plansOf (now (rows .entry)) width) ⌝ }
     ensures after { λ _. ⌜ now (list .exit) ≡ filled (coverFault width (now (rows .entry))) (now (list .entry)) (plansOf (now (rows .entry)) width) ⌝ }
-    ensures plans { λ r. ⌜ Cases r (λ _. Opened width (now (rows .entry))) (λ fault. RefusedWith width (now (rows .entry)) fault) ⌝ }
+    ensures plans { λ r. ⌜ Cases r (λ _. Opened width (now (rows .entry))) (RefusedWith width (now (rows .entry))) ⌝ }
 {
-    check(width, rows)?;
-    Ok(list_plans(width, rows, list))
+    match first_fault(width, rows) {
+        Some(fault) => Err(fault),
+        None => Ok(list_plans(width, rows, list)),
+    }
 }
 
-// Refuses a width that is not 1 to 24, then the first row with a test above the width.
-fn check(width: u32, rows: &[u32]) -> Result<(), CoverFault>
-    ensures { λ r. ⌜ r ≡ checked (coverFault width (now (rows .entry))) ⌝ }
+// A width that is not 1 to 24, else the first row with a test above the width, else none.
+fn first_fault(width: u32, rows: &[u32]) -> Option<CoverFault>
+    ensures answer { λ r. ⌜ r ≡ coverFault width (now (rows .entry)) ⌝ }
+    ensures means { λ r. ⌜ BySome r (Opened width (now (rows .entry))) (RefusedWith width (now (rows .entry))) ⌝ }
 {
     if width < 1 || width > WIDEST {
-        return Err(CoverFault::Width);
+        return Some(CoverFault::Width);
     }
     let limit = 1u32 << width;
     for (i, row) in rows.iter().enumerate() {
         if *row >= limit {
-            return Err(CoverFault::Row(i as u64));
+            return Some(CoverFault::Row(i as u64));
         }
     }
-    Ok(())
+    None
 }
 
 // Fills the list with zeros, then with the plans, and with zeros again where the plans are more than the places.

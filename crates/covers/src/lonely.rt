@@ -10,6 +10,13 @@ pub fn core(rows: &[u32]) -> u32
     ensures answer { λ r. ⌜ r ≡ coreOf (now (rows .entry)) ⌝ }
     ensures common { λ r. ⌜ Common (now (rows .entry)) r ⌝ }
 {
+    alone_in(rows)
+}
+
+fn alone_in(rows: &[u32]) -> u32
+    ensures answer { λ r. ⌜ r ≡ coreOf (now (rows .entry)) ⌝ }
+    ensures common { λ r. ⌜ Common (now (rows .entry)) r ⌝ }
+{
     let mut alone = 0;
     for row in rows {
         alone = alone | single(*row);

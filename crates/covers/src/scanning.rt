@@ -8,7 +8,7 @@ ghost use mathlib.Core.Path.{_≡_};
 
 // What the rows say of the sets from `chosen` up to `reach`.
 #[derive(Clone, Copy)]
-pub struct Node {
+pub struct Seen {
     // every row can still be covered
     pub coverable: bool,
     // every row is covered already
@@ -31,7 +31,7 @@ pub fn single(x: u32) -> u32
     if x.count_ones() == 1 { x } else { 0 }
 }
 
-pub fn scan(rows: &[u32], chosen: u32, reach: u32) -> Node
+pub fn scan(rows: &[u32], chosen: u32, reach: u32) -> Seen
     ensures { λ r. ⌜ Scanned (now (rows .entry)) chosen reach (r .coverable) (r .covered) (r .owned) ⌝ }
 {
     let mut coverable = true;
@@ -42,7 +42,7 @@ pub fn scan(rows: &[u32], chosen: u32, reach: u32) -> Node
         covered = covered & meet(*row, chosen);
         owned = owned | single(*row & chosen);
     }
-    Node {
+    Seen {
         coverable,
         covered,
         owned,

@@ -1,5 +1,5 @@
 -- What is left of the rows, counted on, still decides.
-use Rattle.covers.proofs.listing.check.Given as given
+use Rattle.covers.proofs.listing.first_fault.Given as given
 use Rattle.covers.specs.Answers.{wideRow}
 use lib.ListN.{drop}
 use mathlib.Core.Path.{_≡_}

@@ -1,5 +1,5 @@
 -- What is done so far, joined with the rows that are left, is the whole.
-use Rattle.covers.proofs.lonely.core.Given as given
+use Rattle.covers.proofs.lonely.alone_in.Given as given
 use Rattle.covers.specs.Plans.{coreOf}
 use lib.Bits.{bitOr}
 use lib.ListN.{drop}

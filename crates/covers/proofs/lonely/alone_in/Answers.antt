@@ -1,6 +1,6 @@
 use Rattle.covers.proofs.Least.{core-common}
 use Rattle.covers.proofs.Scans.{core-all, core-more}
-use Rattle.covers.proofs.lonely.core.Needs as need
+use Rattle.covers.proofs.lonely.alone_in.Needs as need
 use Rattle.covers.specs.Theorems.{Common}
 use mathlib.Core.Path.{subst, sym}
 use Prim.Native.Nat.{ℕ}
