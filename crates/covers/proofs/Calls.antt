@@ -1,12 +1,12 @@
 -- The cover call: its faults as computed and as meant, and its list.
 use Prim.Native.Nat.{ℕ, zero, suc, _+_, _-_, _*_, _/_, _%_, _^_, _<_, _≤_}
-use Rattle.covers.proofs.Bits.{some-bit}
+use Rattle.sets.proofs.Bits.{some-bit}
 use Rattle.covers.proofs.PlanLists.{plans-list}
-use Rattle.covers.proofs.Sets.{below-place}
+use Rattle.sets.proofs.Places.{below-place}
 use Rattle.covers.specs.Answers.{coverFault, listed, over, wideRow}
 use Rattle.covers.specs.Divisions.{Apart}
 use Rattle.covers.specs.Plans.{plansOf}
-use Rattle.covers.specs.Sets.{Has}
+use Rattle.sets.specs.Sets.{Has}
 use Rattle.covers.specs.Theorems.{Fair, Opened, RefusedWith, Wide}
 use Rattle.covers.specs.declared.faults.CoverFault.the-variants.{Row, Width}
 use Rattle.covers.specs.declared.faults.CoverFault.{CoverFault}

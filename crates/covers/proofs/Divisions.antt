@@ -3,10 +3,10 @@ use Prim.Native.Nat.{ℕ, zero, suc, _+_, _-_, _*_, _/_, _^_, _<_, _≤_}
 use Rattle.covers.proofs.Least.{own-down, own-least, owned-plan, plan-owned, plan-sound}
 use Rattle.covers.proofs.PlanLists.{kept-none, plans-few, plans-split}
 use Rattle.covers.proofs.Rows.{covers-complete, covers-sound, covers-up}
-use Rattle.covers.proofs.Sets.{and-parts, or-cases, or-has}
+use Rattle.sets.proofs.Places.{and-parts, or-cases, or-has}
 use Rattle.covers.specs.Divisions.{Apart, Halves}
 use Rattle.covers.specs.Plans.{Covers, covers, isPlan, owned, plansIn}
-use Rattle.covers.specs.Sets.{Has, Within, bit}
+use Rattle.sets.specs.Sets.{Has, Within, bit}
 use Rattle.std.proofs.shelf.Tests.{both-ways}
 use Rattle.std.specs.Iters.{counting}
 use Rattle.std.specs.shelf.Lists.{kept-by}

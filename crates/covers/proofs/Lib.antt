@@ -1,5 +1,3 @@
-mod Bits
-mod Sets
 mod Rows
 mod Least
 mod PlanLists

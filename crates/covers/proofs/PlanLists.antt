@@ -2,10 +2,11 @@
 use Prim.Native.Nat.{ℕ, zero, suc, _+_, _-_, _^_, _<_, _≤_}
 use Rattle.covers.proofs.Least.{inner-plan, plan-complete, plan-owned, plan-sound}
 use Rattle.covers.proofs.Rows.{all-in, in-all, owned-own, within-or}
-use Rattle.covers.proofs.Sets.{and-parts, below-place, has-not, lacking, lacking-has, lacking-lacks, place-below}
+use Rattle.sets.proofs.Places.{and-parts, below-place, has-not, lacking, lacking-has, lacking-lacks, place-below}
 use Rattle.covers.specs.Plans.{Covers, Plan, isPlan, owned, plansIn, plansOf}
-use Rattle.covers.specs.Sets.{Has, Shares, Within, bit}
-use Rattle.covers.specs.Theorems.{In, Lists, Rising}
+use Rattle.sets.specs.Sets.{Has, Shares, Within, bit}
+use Rattle.covers.specs.Theorems.{Lists}
+use Rattle.sets.specs.Lists.{In, Rising}
 use Rattle.std.proofs.shelf.Elements.{all-weaker, kept-by-append, kept-by-passes}
 use Rattle.std.proofs.shelf.Tests.{cases-eq}
 use Rattle.std.specs.Iters.{counting}

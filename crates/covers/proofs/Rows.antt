@@ -1,10 +1,11 @@
 -- Covering, and rows of one's own: what is computed is what is meant.
 use Prim.Native.Nat.{ℕ, zero, suc, _/_, _%_, _<_, _≤_}
-use Rattle.covers.proofs.Bits.{bit-cases, bit-suc, bit-zero, within-same}
-use Rattle.covers.proofs.Sets.{Lone, alone-lone, and-has, and-parts, has-not, lone-alone, meets-shares, or-cases, or-has, shares-meets}
-use Rattle.covers.specs.Plans.{Covers, alone, covers, meets, owned}
-use Rattle.covers.specs.Sets.{Has, Shares, Within, bit}
-use Rattle.covers.specs.Theorems.{In}
+use Rattle.sets.proofs.Bits.{bit-cases, bit-suc, bit-zero, within-same}
+use Rattle.sets.proofs.Places.{Lone, alone-lone, and-has, and-parts, has-not, lone-alone, meets-shares, or-cases, or-has, shares-meets}
+use Rattle.covers.specs.Plans.{Covers, covers, owned}
+use Rattle.sets.specs.Sets.{alone, meets}
+use Rattle.sets.specs.Sets.{Has, Shares, Within, bit}
+use Rattle.sets.specs.Lists.{In}
 use Rattle.std.proofs.shelf.Tests.{and-from, and-parts as both-true}
 use Rattle.std.specs.shelf.Lists.{All}
 use lib.Arith.{bin-ind}

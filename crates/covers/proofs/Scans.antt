@@ -1,8 +1,9 @@
 -- One pass over the rows: what is done so far, joined with the rows that are left, stays the whole.
 use Prim.Native.Nat.{ℕ, max, _+_, _<_, _≤_}
-use Rattle.covers.proofs.Bits.{bit-ext, bit-or}
-use Rattle.covers.specs.Plans.{alone, coreOf, covers, meets, owned}
-use Rattle.covers.specs.Sets.{bit}
+use Rattle.sets.proofs.Bits.{bit-ext, bit-or}
+use Rattle.covers.specs.Plans.{coreOf, covers, owned}
+use Rattle.sets.specs.Sets.{alone, meets}
+use Rattle.sets.specs.Sets.{bit}
 use Rattle.std.proofs.shelf.Lists.{at-drop-all, at-drop-more}
 use lib.Bits.{bitAnd, bitOr, or-zero-r}
 use lib.ListN.{drop, getD, length}

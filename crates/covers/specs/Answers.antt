@@ -8,8 +8,6 @@ use Rattle.refusals.specs.declared.Place.the-variants.{At}
 use Rattle.refusals.specs.declared.Refusal.{Refusal}
 use Rattle.std.specs.declared.option.Option.the-variants.{None, Some}
 use Rattle.std.specs.declared.option.Option.{Option}
-use Rattle.std.specs.declared.result.Result.the-variants.{Err, Ok}
-use Rattle.std.specs.declared.result.Result.{Result}
 use lib.Dec.{leb, ltb}
 use lib.ListN.{length, replicate}
 use mathlib.Core.Bool.{_&&_, cond}
@@ -33,16 +31,10 @@ coverFault width rows = cond (leb 1 width && leb width 24) (wideRow width 0 rows
 unfoldable pub over : ℕ → List ℕ → ℕ
 over places plans = cond (leb (length plans) places) 0 1
 
+-- the two numbers of an answer: how many plans, and over
+abbrev pub told : ℕ → List ℕ → ℕ × ℕ
+told places plans = (length plans, over places plans)
+
 -- the plans and zeros after them, or, where they are more than the places, zeros alone
 unfoldable pub listed : ℕ → List ℕ → List ℕ
 listed places plans = cond (leb (length plans) places) (plans ++ replicate (places - length plans) 0) (replicate places 0)
-
--- number of plans and over, unless there is a fault
-abbrev pub answered : Option CoverFault → ℕ → List ℕ → Result (ℕ × ℕ) CoverFault
-answered None places plans = Ok (length plans, over places plans)
-answered (Some fault) places plans = Err fault
-
--- the list as it then is: filled, or as it was where there is a fault
-abbrev pub filled : Option CoverFault → List ℕ → List ℕ → List ℕ
-filled None list plans = listed (length list) plans
-filled (Some fault) list plans = list

@@ -1,4 +1,3 @@
-pub mod Sets
 pub mod Plans
 pub mod Scans
 pub mod Divisions

@@ -1,12 +1,11 @@
 -- Plans: the minimal covers of a matrix, which the field calls reducts. A row is the set of tests that tell two records apart.
 use Prim.Native.Nat.{ℕ, _^_}
-use Rattle.covers.specs.Sets.{Proper, Shares}
+use Rattle.sets.specs.Sets.{Proper, Shares, alone, meets}
 use Rattle.std.specs.Iters.{counting}
 use Rattle.std.specs.shelf.Lists.{All, kept-by}
 use lib.Bits.{bitAnd, bitOr}
-use lib.Count.{ones}
 use lib.Dec.{eqb}
-use mathlib.Core.Bool.{Bool, _&&_, cond, not, true}
+use mathlib.Core.Bool.{Bool, _&&_, true}
 use mathlib.Core.List.{List, [], _∷_}
 
 -- s has a test in common with every row
@@ -17,18 +16,10 @@ Covers rows s = All (λ row. Shares row s) rows
 abbrev pub Plan : List ℕ → ℕ → Type 0
 Plan rows s = Covers rows s × ((t : ℕ) → Proper t s → Covers rows t → ⊥)
 
--- the same by computing: do two sets have a test in common
-unfoldable pub meets : ℕ → ℕ → Bool
-meets s t = not (eqb (bitAnd s t) 0)
-
--- does s have a test in common with every row
+-- the same by computing: does s have a test in common with every row
 unfoldable pub covers : List ℕ → ℕ → Bool
 covers [] s = true
 covers (row ∷ rows) s = meets row s && covers rows s
-
--- x where it is a single test, else the empty set
-unfoldable pub alone : ℕ → ℕ
-alone x = cond (eqb (ones x) 1) x 0
 
 -- the tests of s that have a row of their own: one that no other test of s covers
 unfoldable pub owned : List ℕ → ℕ → ℕ

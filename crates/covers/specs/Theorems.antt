@@ -1,24 +1,14 @@
 -- What a listing of all plans gives its reader.
 use Prim.Native.Nat.{ℕ, _<_, _≤_}
 use Rattle.covers.specs.Plans.{Covers, Plan, plansOf}
-use Rattle.covers.specs.Sets.{Has, Shares, Within}
+use Rattle.sets.specs.Lists.{In, Rising}
+use Rattle.sets.specs.Sets.{Has, Shares, Within}
 use Rattle.covers.specs.declared.faults.CoverFault.the-variants.{Row, Width}
 use Rattle.covers.specs.declared.faults.CoverFault.{CoverFault}
 use Rattle.std.specs.shelf.Lists.{All}
 use lib.ListN.{getD, length, take}
-use mathlib.Core.List.{List, [], _∷_}
-use mathlib.Core.Logic.{_↔_, _⊎_}
-use mathlib.Core.Path.{_≡_}
-
--- x stands in the list
-abbrev pub In : List ℕ → ℕ → Type 0
-In [] x = ⊥
-In (y ∷ ys) x = (y ≡ x) ⊎ In ys x
-
--- each number is below all that follow it, so none comes twice
-abbrev pub Rising : List ℕ → Type 0
-Rising [] = Unit {0}
-Rising (x ∷ xs) = All (λ y. x < y) xs × Rising xs
+use mathlib.Core.List.{List}
+use mathlib.Core.Logic.{_↔_}
 
 -- the list holds the plans of the matrix, and what follows from that for any set s
 pub record Lists (rows plans : List ℕ) : Type 0 where

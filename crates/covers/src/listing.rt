@@ -1,9 +1,10 @@
 // The cover call: all minimal covers of a matrix into the caller's list.
 
 ghost use Prim.Native.Nat.{_^_, _≤_};
-ghost use Rattle.covers.specs.Answers.{answered, coverFault, filled, listed, over};
+ghost use Rattle.covers.specs.Answers.{coverFault, listed, told};
 ghost use Rattle.covers.specs.Plans.{plansOf};
 ghost use Rattle.covers.specs.Theorems.{Lists, Opened, RefusedWith};
+ghost use Rattle.refusals.specs.Faults.{answered, leaves};
 ghost use Rattle.std.specs.Options.{Cases as BySome};
 ghost use Rattle.std.specs.Results.{Cases};
 ghost use lib.ListN.{length, replicate};
@@ -16,8 +17,8 @@ const WIDEST: u32 = 24;
 // Lists all plans of the matrix in `rows`: answers their number, and 1 for over where they are more than the places, else 0.
 // The list then holds them, rising, with zeros after; where it is over, zeros alone; where it refuses, what it held.
 pub fn cover(width: u32, rows: &[u32], list: &mut [u32]) -> Result<(u32, u32), CoverFault>
-    ensures answer { λ r. ⌜ r ≡ answered (coverFault width (now (rows .entry))) (length (now (list .entry))) (plansOf (now (rows .entry)) width) ⌝ }
-    ensures after { λ _. ⌜ now (list .exit) ≡ filled (coverFault width (now (rows .entry))) (now (list .entry)) (plansOf (now (rows .entry)) width) ⌝ }
+    ensures answer { λ r. ⌜ r ≡ answered (coverFault width (now (rows .entry))) (told (length (now (list .entry))) (plansOf (now (rows .entry)) width)) ⌝ }
+    ensures after { λ _. ⌜ now (list .exit) ≡ leaves (coverFault width (now (rows .entry))) (now (list .entry)) (listed (length (now (list .entry))) (plansOf (now (rows .entry)) width)) ⌝ }
     ensures plans { λ r. ⌜ Cases r (λ _. Opened width (now (rows .entry))) (RefusedWith width (now (rows .entry))) ⌝ }
 {
     match first_fault(width, rows) {
@@ -46,7 +47,7 @@ fn first_fault(width: u32, rows: &[u32]) -> Option<CoverFault>
 // Fills the list with zeros, then with the plans, and with zeros again where the plans are more than the places.
 fn list_plans(width: u32, rows: &[u32], list: &mut [u32]) -> (u32, u32)
     requires { ⌜ width ≤ 24 ⌝ }
-    ensures answer { λ r. ⌜ r ≡ (length (plansOf (now (rows .entry)) width), over (length (now (list .entry))) (plansOf (now (rows .entry)) width)) ⌝ }
+    ensures answer { λ r. ⌜ r ≡ told (length (now (list .entry))) (plansOf (now (rows .entry)) width) ⌝ }
     ensures after { λ _. ⌜ now (list .exit) ≡ listed (length (now (list .entry))) (plansOf (now (rows .entry)) width) ⌝ }
 {
     clear(list);

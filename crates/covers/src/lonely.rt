@@ -3,7 +3,7 @@
 ghost use Rattle.covers.specs.Plans.{coreOf};
 ghost use Rattle.covers.specs.Theorems.{Common};
 ghost use mathlib.Core.Path.{_≡_};
-use crate::scanning::single;
+use sets::single;
 
 // The set of tests that stand alone in some row; wherever there is a plan, the tests common to all plans.
 pub fn core(rows: &[u32]) -> u32

@@ -6,8 +6,8 @@ loop-row-again c =
     let rows = c .args .rows .now in
     let i = c .loop-row .row-index in
     let l = c .loop-row-test .taken in (
-      covers-more rows i l _ _ _ _ (c .meet-coverable .ensures) (c .loop-row .inv .0),
-      covers-more rows i l _ _ _ _ (c .meet-covered .ensures) (c .loop-row .inv .1),
+      covers-more rows i l _ _ _ _ (c .meets-coverable .ensures) (c .loop-row .inv .0),
+      covers-more rows i l _ _ _ _ (c .meets-covered .ensures) (c .loop-row .inv .1),
       owned-more rows i l _ _ _ _ (c .single-owned .ensures) (c .loop-row .inv .2),
     )
 

@@ -1,6 +1,6 @@
 -- The digits of a set: of a half, an intersection, a union; sets with the same digits are the same.
 use Prim.Native.Nat.{ℕ, zero, suc, min, max, _+_, _*_, _/_, _%_, _^_, _<_, _≤_}
-use Rattle.covers.specs.Sets.{bit, Has, Within, Shares}
+use Rattle.sets.specs.Sets.{bit, Has, Within, Shares}
 use lib.Arith.{bin-ind}
 use lib.Bits.{bitAnd, bitOr, and-shr, and-step, or-shr, or-step}
 use lib.Pow.{shr-shr}

@@ -1,8 +1,8 @@
--- Single tests, sets with a test struck out, complements, and bounds on a set by its tests.
+-- Sets by their tests: intersections, unions, single tests, a test struck out, complements, bounds.
 use Prim.Native.Nat.{ℕ, zero, suc, min, max, _+_, _-_, _*_, _/_, _%_, _^_, _<_, _≤_}
-use Rattle.covers.proofs.Bits.{bit-and, bit-cases, bit-or, bit-suc, bit-zero, some-bit}
-use Rattle.covers.specs.Plans.{alone, meets}
-use Rattle.covers.specs.Sets.{bit, Has, Within, Shares}
+use Rattle.sets.proofs.Bits.{bit-and, bit-cases, bit-or, bit-suc, bit-zero, some-bit}
+use Rattle.sets.specs.Sets.{alone, meets}
+use Rattle.sets.specs.Sets.{bit, Has, Within, Shares}
 use Rattle.std.proofs.shelf.Tests.{cases-bool, eqb-true, eqb-false, eq-eqb, ne-eqb, both-ways, not-true, cases-lt, cases-eq}
 use lib.Arith.{bin-ind}
 use lib.Bits.{bitAnd, bitOr}
@@ -38,11 +38,9 @@ or-cases j a b h = go (bit-cases j a)
     go (inr z) = let e : max (bit j a) (bit j b) ≡ 1 = sym (bit-or j a b) ∙ h in inr (omega arith)
 
 pub shares-meets : (s t : ℕ) → Shares s t → meets s t ≡ true
-unfolding meets
 shares-meets s t (j, p, q) = ap not (ne-eqb (bitAnd s t) 0 (λ z. has-not j (bitAnd s t) (and-has j s t p q) (ap (bit j) z ∙ bit-zero j)))
 
 pub meets-shares : (s t : ℕ) → meets s t ≡ true → Shares s t
-unfolding meets
 meets-shares s t h =
     let p = some-bit (bitAnd s t) (eqb-false (bitAnd s t) 0 (not-true (eqb (bitAnd s t) 0) h)) in
     let q = and-parts (p .0) s t (p .1) in
@@ -113,7 +111,6 @@ lone-ones = bin-ind (λ x. (j : ℕ) → Lone j x → ones x ≡ 1) (λ j h. abs
         below = ih j (sym (bit-suc j x) ∙ h .0, λ i k. let q = h .1 (suc i) (bit-suc i x ∙ k) in omega arith)
 
 pub alone-lone : (j x : ℕ) → Has j (alone x) → Lone j x
-unfolding alone
 alone-lone j x = go (eqb (ones x) 1) refl
   where
     go : (b : Bool) → eqb (ones x) 1 ≡ b → Has j (cond b x 0) → Lone j x
@@ -124,7 +121,6 @@ alone-lone j x = go (eqb (ones x) 1) refl
         subst (λ (k : ℕ). Lone k x) (sym same) (p .1)
 
 pub lone-alone : (j x : ℕ) → Lone j x → alone x ≡ x
-unfolding alone
 lone-alone j x h = ap (λ (b : Bool). cond b x 0) (eq-eqb (ones x) 1 (lone-ones x j h))
 
 -- ---- a test struck out

@@ -1,5 +1,9 @@
 -- Sets of tests. A set is a number: the test at place j, counted from 0, counts 2 ^ j. The user's test 1 is at place 0.
 use Prim.Native.Nat.{ℕ, _%_, _/_, _^_}
+use lib.Bits.{bitAnd}
+use lib.Count.{ones}
+use lib.Dec.{eqb}
+use mathlib.Core.Bool.{Bool, cond, not}
 use mathlib.Core.Logic.{_≢_}
 use mathlib.Core.Path.{_≡_}
 
@@ -22,3 +26,11 @@ Proper t s = Within t s × (t ≢ s)
 -- s and t have a test in common
 abbrev pub Shares : ℕ → ℕ → Type 0
 Shares s t = (j : ℕ) × Has j s × Has j t
+
+-- the same by computing
+abbrev pub meets : ℕ → ℕ → Bool
+meets s t = not (eqb (bitAnd s t) 0)
+
+-- x where it is a single test, else the empty set
+abbrev pub alone : ℕ → ℕ
+alone x = cond (eqb (ones x) 1) x 0

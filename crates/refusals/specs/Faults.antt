@@ -1,0 +1,20 @@
+-- What a call answers that may find a fault.
+use Rattle.std.specs.declared.option.Option.the-variants.{None, Some}
+use Rattle.std.specs.declared.option.Option.{Option}
+use Rattle.std.specs.declared.result.Result.the-variants.{Err, Ok}
+use Rattle.std.specs.declared.result.Result.{Result}
+
+-- the first of two faults that is there
+abbrev pub orElse : {E : Type 0} → Option E → Option E → Option E
+orElse (Some fault) other = Some fault
+orElse None other = other
+
+-- a call that finds a fault refuses with it, and one that finds none answers
+abbrev pub answered : {X E : Type 0} → Option E → X → Result X E
+answered (Some fault) x = Err fault
+answered None x = Ok x
+
+-- what memory then is: as it was where there is a fault, else what the call makes of it
+abbrev pub leaves : {M E : Type 0} → Option E → M → M → M
+leaves (Some fault) before after = before
+leaves None before after = after
