@@ -11,7 +11,7 @@ use Rattle.covers.specs.Theorems.{Fair, Opened, RefusedWith, Wide}
 use Rattle.covers.specs.declared.faults.CoverFault.the-variants.{Row, Width}
 use Rattle.covers.specs.declared.faults.CoverFault.{CoverFault}
 use Rattle.std.proofs.shelf.Bits.{le-div}
-use Rattle.std.proofs.shelf.Elements.{all-weaker}
+use Rattle.std.proofs.shelf.Elements.{all-getD, all-weaker}
 use Rattle.std.proofs.shelf.Lists.{at-drop-all, at-drop-more, drop-replicate}
 use Rattle.std.proofs.shelf.Tests.{both-ways, and-from, and-left, and-parts, and-right, cond-false, cond-true, le-leb, leb-true, lt-leb, lt-ltb, le-ltb, ltb-true, ltb-false}
 use Rattle.std.specs.Options.{Cases}
@@ -162,3 +162,8 @@ listed-fits places plans h =
 pub listed-not : (places : ℕ) (plans : List ℕ) → places < length plans → replicate places 0 ≡ listed places plans
 unfolding listed
 listed-not places plans h = sym (cond-false (leb (length plans) places) (plans ++ replicate (places - length plans) 0) (replicate places 0) (lt-leb (length plans) places h))
+
+-- a fair width and rows that have no test above it are not refused
+pub not-refused : (width : ℕ) (rows : List ℕ) (fault : CoverFault) → Fair width → All (λ row. row < 2 ^ width) rows → RefusedWith width rows fault → ⊥
+not-refused width rows Width fair small h = h fair
+not-refused width rows (Row k) fair small (f, l, w, before) = narrow width (getD rows k 0) (all-getD (λ row. row < 2 ^ width) rows k 0 l small) w

@@ -1,6 +1,6 @@
-mod Rows
-mod Least
-mod PlanLists
-mod Scans
-mod Divisions
-mod Calls
+pub mod Rows
+pub mod Least
+pub mod PlanLists
+pub mod Scans
+pub mod Divisions
+pub mod Calls

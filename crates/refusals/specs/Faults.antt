@@ -14,6 +14,10 @@ abbrev pub answered : {X E : Type 0} → Option E → X → Result X E
 answered (Some fault) x = Err fault
 answered None x = Ok x
 
+-- what a check answers
+abbrev pub passed : {E : Type 0} → Option E → Result (Unit {0}) E
+passed fault = answered fault tt
+
 -- what memory then is: as it was where there is a fault, else what the call makes of it
 abbrev pub leaves : {M E : Type 0} → Option E → M → M → M
 leaves (Some fault) before after = before

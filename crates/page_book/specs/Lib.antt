@@ -1,0 +1,5 @@
+pub mod Layout
+pub mod Lowest
+pub mod Refused
+pub mod Told
+pub mod Rows

@@ -1,0 +1,7 @@
+mod Decimal
+mod Puts
+mod Spacing
+mod Subsets
+mod Telling
+mod Widths
+mod Wrote

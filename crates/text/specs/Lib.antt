@@ -1,0 +1,4 @@
+pub mod Sets
+pub mod Printed
+pub mod Refused
+pub mod Told
