@@ -7,7 +7,7 @@ use Rattle.std.specs.declared.option.Option.the-variants.{None, Some}
 use Rattle.std.specs.declared.option.Option.{Option}
 use mathlib.Core.Bool.{Bool, false, true}
 use mathlib.Core.Logic.{_⊎_, inl, inr}
-use mathlib.Core.Path.{_≡_, refl}
+use mathlib.Core.Path.{_≡_, _∙_, ap, refl, sym}
 use native.Mathlib.Numerals.{add-one}
 use native.Mathlib.Omega.{arith}
 
@@ -28,6 +28,10 @@ true-by false a b h = let z : _≡_ {A = ℕ} 0 1 = cc in absurd (omega arith)
 pub false-by : {A : Type 0} (t : Bool) (a : A) → when t a ≡ None → t ≡ false
 false-by true a h = let z : _≡_ {A = ℕ} 0 1 = cc in absurd (omega arith)
 false-by false a h = refl
+
+-- the answer names n, which is where it was found
+pub named : {A B : Type 0} (f : ℕ → A) (g : A → B) (n k : ℕ) (r : A) → n ≡ k → r ≡ f k → g (f n) ≡ g r
+named f g n k r e h = ap (λ m. g (f m)) e ∙ sym (ap g h)
 
 -- neither is there
 pub or-none : {A : Type 0} (x y : Option A) → orElse x y ≡ None → (x ≡ None) × (y ≡ None)

@@ -25,6 +25,17 @@ pub fn check(page: &[u8], width: u32) -> Result<(), BookFault>
     ensures layout { λ r. ⌜ AgainstLayout (now (page .entry)) width r ⌝ }
     ensures twice { λ r. ⌜ TagTwice (now (page .entry)) width r ⌝ }
 {
+    check_all(page, width)
+}
+
+// Width and size first, then the page, whose fault goes up whole.
+fn check_all(page: &[u8], width: u32) -> Result<(), BookFault>
+    ensures answer { λ r. ⌜ r ≡ passed (refusedPage (now (page .entry)) width) ⌝ }
+    ensures accepted { λ r. ⌜ Accepted (now (page .entry)) width r ⌝ }
+    ensures misfit { λ r. ⌜ Misfit (now (page .entry)) width r ⌝ }
+    ensures layout { λ r. ⌜ AgainstLayout (now (page .entry)) width r ⌝ }
+    ensures twice { λ r. ⌜ TagTwice (now (page .entry)) width r ⌝ }
+{
     check_fit(page, width)?;
     check_records(page, width)?;
     Ok(())

@@ -1,6 +1,6 @@
 -- The loop looks for the lowest wrong byte.
 use Rattle.page_book.proofs.Bytes.{found-right, found-wrong}
-use Rattle.page_book.proofs.Lowest.{lowest-found, lowest-more, lowest-none}
+use Rattle.page_book.proofs.Lowest.{lowest-found, lowest-more, lowest-none, named}
 use Rattle.page_book.proofs.layout.wrong_byte.Needs as need
 use Rattle.page_book.specs.Refused.{wrongAt, wrongByte}
 use Rattle.std.specs.declared.option.Option.the-variants.{Some}
@@ -13,12 +13,11 @@ loop-at-holds c = lowest-none (wrongAt (c .args .page .now) (c .args .width) (c 
 pub returns-then-not-right-byte : need.returns-then-not-right-byte
 unfolding wrongByte
 returns-then-not-right-byte c =
-    let found : wrongByte (c .args .page .now) (c .args .width) (c .args .k) ≡ Some (c .loop-at .at) =
-    lowest-found _ (c .loop-at .at) 32 _ (c .loop-at .inv)
+    named Some (λ o. o) _ (c .loop-at .at) _ (omega arith)
+    (lowest-found _ (c .loop-at .at) 32 _ (c .loop-at .inv)
     (found-wrong (c .args .page .now) (c .args .width) (c .args .k) (c .loop-at .at) _ _ (c .tag-at-tag .ensures)
     (c .byte-at .ensures) (c .if-not-right-byte .ensures tt))
-    (omega arith) in
-    cc
+    (omega arith))
 
 pub loop-at-again : need.loop-at-again
 loop-at-again c =

@@ -1,6 +1,6 @@
 -- The equation, and from it the words.
 use Rattle.page_book.proofs.Answered.{accepted, against-layout, misfit, tag-twice}
-use Rattle.page_book.proofs.checks.check.Needs as need
+use Rattle.page_book.proofs.checks.check_all.Needs as need
 use Rattle.refusals.specs.Faults.{passed}
 use Rattle.page_book.specs.Refused.{refusedPage}
 use Rattle.std.specs.declared.result.Result.the-variants.{Ok}
