@@ -1,1 +1,5 @@
 pub mod Lines
+pub mod Meanings
+pub mod Changes
+pub mod Questions
+pub mod Promises

@@ -1,3 +1,13 @@
-// Books: so far the faults of a book, each with its number, origin and place.
+// Books: what a book is, once, as an interface with a meaning.
 
+// every fault of a page and of a book, with its number, origin and place
 pub mod faults;
+
+// the questions
+pub mod shown;
+
+// the changes
+pub mod book;
+
+// the look-up in the refusal table
+pub mod table;

@@ -1,7 +1,7 @@
 -- The lowest number at which f gives something: a loop's start, step and find; what none and some say of each number.
 use Prim.Native.Nat.{ℕ, suc, zero, _+_, _<_}
-use Rattle.page_book.specs.Lowest.{lowest, when}
-use Rattle.refusals.specs.Faults.{orElse}
+use Rattle.page_book.specs.Lowest.{lowest}
+use Rattle.refusals.specs.Faults.{orElse, when}
 use Rattle.std.proofs.shelf.Tests.{cases-order}
 use Rattle.std.specs.declared.option.Option.the-variants.{None, Some}
 use Rattle.std.specs.declared.option.Option.{Option}

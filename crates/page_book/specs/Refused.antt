@@ -5,8 +5,8 @@ use Rattle.books.specs.declared.faults.BookFault.{BookFault}
 use Rattle.books.specs.declared.faults.PageFault.the-variants.{Layout, Twice}
 use Rattle.books.specs.declared.faults.PageFault.{PageFault}
 use Rattle.page_book.specs.Layout.{byteAt, recordsIn, tagAt}
-use Rattle.page_book.specs.Lowest.{lowest, when}
-use Rattle.refusals.specs.Faults.{orElse}
+use Rattle.page_book.specs.Lowest.{lowest}
+use Rattle.refusals.specs.Faults.{orElse, when}
 use Rattle.std.specs.Options.{isSome}
 use Rattle.std.specs.declared.option.Option.the-variants.{None, Some}
 use Rattle.std.specs.declared.option.Option.{Option}

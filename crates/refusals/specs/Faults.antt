@@ -3,6 +3,12 @@ use Rattle.std.specs.declared.option.Option.the-variants.{None, Some}
 use Rattle.std.specs.declared.option.Option.{Option}
 use Rattle.std.specs.declared.result.Result.the-variants.{Err, Ok}
 use Rattle.std.specs.declared.result.Result.{Result}
+use mathlib.Core.Bool.{Bool, false, true}
+
+-- a fault, where the test holds
+abbrev pub when : {E : Type 0} → Bool → E → Option E
+when true fault = Some fault
+when false fault = None
 
 -- the first of two faults that is there
 abbrev pub orElse : {E : Type 0} → Option E → Option E → Option E

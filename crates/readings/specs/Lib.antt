@@ -1,0 +1,4 @@
+pub mod Kinds
+pub mod Codes
+pub mod Spans
+pub mod Faults
