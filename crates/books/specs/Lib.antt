@@ -3,3 +3,4 @@ pub mod Meanings
 pub mod Changes
 pub mod Questions
 pub mod Promises
+pub mod Gathered
