@@ -11,3 +11,5 @@ pub mod book;
 
 // the look-up in the refusal table
 pub mod table;
+#[cfg(test)]
+mod tests;

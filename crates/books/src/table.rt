@@ -91,10 +91,10 @@ fn by_held<B: Shown>(book: &B, tag: u16) -> Option<BookFault>
 pub fn withdraw_fault<B: Shown>(book: &B, tag: u16) -> Option<BookFault>
     ensures { λ r. ⌜ r ≡ refused (Reading·Reading .kind) (B·Shown .means (now (book .entry))) (withdraw tag) ⌝ }
 {
-    if tag == 0 {
-        return Some(BookFault::NoTag);
+    match tag {
+        0 => Some(BookFault::NoTag),
+        named => by_absence(book, named),
     }
-    by_absence(book, tag)
 }
 
 // The first fault of amending a reading, or none.

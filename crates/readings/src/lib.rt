@@ -11,3 +11,5 @@ pub mod faults;
 
 // a span of numbers, low to high
 pub mod spans;
+#[cfg(test)]
+mod tests;

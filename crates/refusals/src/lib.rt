@@ -38,3 +38,6 @@ pub trait Fault {
     fn refusal(&self) -> Refusal
         ensures { λ r. ⌜ r ≡ line (now (self .entry)) ⌝ };
 }
+
+#[cfg(test)]
+mod tests;

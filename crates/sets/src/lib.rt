@@ -16,3 +16,6 @@ pub fn single(x: u32) -> u32
 {
     if x.count_ones() == 1 { x } else { 0 }
 }
+
+#[cfg(test)]
+mod tests;

@@ -21,16 +21,11 @@ impl Span {
         Ok(Span { low, high })
     }
 
-    pub fn low(&self) -> u16
-        ensures { λ r. ⌜ r ≡ now (self .entry) .low ⌝ }
+    // Its two ends, low first.
+    pub fn ends(&self) -> (u16, u16)
+        ensures { λ r. ⌜ r ≡ (now (self .entry) .low, now (self .entry) .high) ⌝ }
     {
-        self.low
-    }
-
-    pub fn high(&self) -> u16
-        ensures { λ r. ⌜ r ≡ now (self .entry) .high ⌝ }
-    {
-        self.high
+        (self.low, self.high)
     }
 }
 
