@@ -6,6 +6,7 @@ use Rattle.covers.proofs.Rows.{covers-complete, covers-sound, covers-up}
 use Rattle.sets.proofs.Places.{and-parts, or-cases, or-has}
 use Rattle.covers.specs.Divisions.{Apart, Halves}
 use Rattle.covers.specs.Plans.{Covers, covers, isPlan, owned, plansIn}
+use Rattle.sets.proofs.Runs.{sets-append}
 use Rattle.sets.specs.Sets.{Has, Within, bit}
 use Rattle.std.proofs.shelf.Tests.{both-ways}
 use Rattle.std.specs.Iters.{counting}
@@ -20,14 +21,6 @@ use mathlib.Core.Logic.{_≢_, inl, inr, ⊎-elim}
 use mathlib.Core.Path.{_≡_, refl, sym, ap, subst, _∙_}
 use native.Mathlib.Nat.{add-zero, mod-eq-of-lt, mul-assoc, pow-suc, pow-succ'}
 use native.Mathlib.Omega.{arith}
-
--- what is written after a run of writes
-pub sets-append : (l : List ℕ) (i : ℕ) (xs ys : List ℕ) → sets l i (xs ++ ys) ≡ sets (sets l i xs) (i + length xs) ys
-sets-append l i [] ys = ap (λ (k : ℕ). sets l k ys) (sym (add-zero i))
-sets-append l i (x ∷ xs) ys = sets-append (set l i x) (suc i) xs ys ∙ ap (λ (k : ℕ). sets (sets (set l i x) (suc i) xs) k ys) place
-  where
-    place : suc i + length xs ≡ i + suc (length xs)
-    place = omega arith
 
 module _ (rows : List ℕ) (chosen undecided : ℕ) (node : Apart chosen undecided) where
   -- the node's sets, as chosen tests joined with undecided ones

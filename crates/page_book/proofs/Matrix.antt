@@ -2,6 +2,7 @@
 use Prim.Native.Nat.{ℕ, suc, zero, _*_, _+_, _%_, _<_, _^_, _≤_}
 use Rattle.page_book.specs.Layout.{codeAt}
 use Rattle.page_book.specs.Rows.{apart, sameOrBlank, differing, matrixTo, rowAt, rowOf, rowsWith}
+use Rattle.sets.proofs.Runs.{sets-append}
 use Rattle.std.proofs.shelf.Bits.{mul-le, one-shl}
 use Rattle.std.proofs.shelf.Elements.{all-append}
 use Rattle.std.proofs.shelf.Lists.{append-nil, length-append}
@@ -15,13 +16,6 @@ use mathlib.Core.Path.{_≡_, _∙_, ap, sym}
 use native.Mathlib.Nat.{add-zero, mul-suc, pow-suc, suc-mul}
 use native.Mathlib.Numerals.{add-one}
 use native.Mathlib.Omega.{arith}
-
--- writing two lists one after the other
-pub sets-append : (l : List ℕ) (c : ℕ) (xs ys : List ℕ) → sets l c (xs ++ ys) ≡ sets (sets l c xs) (c + length xs) ys
-sets-append l c [] ys = rw add-zero
-sets-append l c (x ∷ xs) ys =
-    let e : suc c + length xs ≡ c + length (x ∷ xs) = omega arith in
-    sets-append (set l c x) (suc c) xs ys ∙ rw e
 
 -- where xs is written, ys after it makes zs
 pub written-more : (start now xs ys zs : List ℕ) (from count : ℕ) → count ≡ from + length xs → now ≡ sets start from xs → zs ≡ xs ++ ys → (count + length ys ≡ from + length zs) × (sets now count ys ≡ sets start from zs)

@@ -1,19 +1,12 @@
 -- Bytes put one run after another are the joined run, put once.
-use Prim.Native.Nat.{ℕ, suc, _+_, _<_}
+use Prim.Native.Nat.{ℕ, _+_, _<_}
+use Rattle.sets.proofs.Runs.{sets-append}
 use Rattle.std.proofs.shelf.Lists.{take-more, length-take-le}
 use lib.ListN.{length, getD, set, take}
 use lib.Seq.{sets}
-use mathlib.Core.List.{List, [], _∷_, _++_}
+use mathlib.Core.List.{List, [], _∷_}
 use mathlib.Core.Path.{_≡_, sym, ap, _∙_}
-use native.Mathlib.Nat.{add-zero, add-suc, suc-add}
 use native.Mathlib.Omega.{arith}
-
-pub sets-append : (l : List ℕ) (i : ℕ) (xs ys : List ℕ)
-    → sets (sets l i xs) (i + length xs) ys ≡ sets l i (xs ++ ys)
-sets-append l i [] ys = rw add-zero
-sets-append l i (x ∷ xs) ys =
-    ap (λ (k : ℕ). sets (sets (set l i x) (suc i) xs) k ys) (add-suc i (length xs) ∙ sym (suc-add i (length xs)))
-    ∙ sets-append (set l i x) (suc i) xs ys
 
 -- one more byte of a text that is copied byte for byte
 pub sets-more : (l : List ℕ) (at : ℕ) (bytes : List ℕ) (i : ℕ) → i < length bytes
@@ -21,5 +14,5 @@ pub sets-more : (l : List ℕ) (at : ℕ) (bytes : List ℕ) (i : ℕ) → i < l
 sets-more l at bytes i h =
     let n : length (take i bytes) ≡ i = length-take-le i bytes (omega arith) in
     ap (λ (k : ℕ). set (sets l at (take i bytes)) (at + k) (getD bytes i 0)) (sym n)
-    ∙ sets-append l at (take i bytes) (getD bytes i 0 ∷ [])
+    ∙ sym (sets-append l at (take i bytes) (getD bytes i 0 ∷ []))
     ∙ ap (λ (bs : List ℕ). sets l at bs) (sym (take-more bytes i 0 h))

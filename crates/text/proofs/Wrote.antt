@@ -1,12 +1,12 @@
 -- A text that grows in a buffer, run by run.
 use Prim.Native.Nat.{ℕ, _+_, _≤_, _<_}
-use Rattle.text.proofs.Puts.{sets-append}
+use Rattle.sets.proofs.Runs.{sets-append}
 use Rattle.text.specs.Printed.{lineFeed}
 use Rattle.text.specs.Refused.{laid}
 use lib.ListN.{length, drop, length-append}
 use lib.Seq.{sets, sets-eq, length-sets}
 use mathlib.Core.List.{List, [], _++_}
-use mathlib.Core.Path.{_≡_, refl, ap, _∙_}
+use mathlib.Core.Path.{_≡_, sym, refl, ap, _∙_}
 use native.Mathlib.Nat.{zero-add}
 use native.Mathlib.Omega.{arith}
 
@@ -27,7 +27,7 @@ wrote-more {start} {text} {now} {from} {at} w run {next} {after} e f = record {
       f
       ∙ ap (λ (n : ℕ). sets now n run) (w .place)
       ∙ ap (λ (b : List ℕ). sets b (from + length text) run) (w .bytes)
-      ∙ sets-append start from text run;
+      ∙ sym (sets-append start from text run);
 }
 
 -- at the start of the buffer: the text, and then the bytes that were there

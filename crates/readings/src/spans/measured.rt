@@ -44,6 +44,13 @@ pub impl Reading for Span as Spanned {
         ensures answer { λ r. ⌜ r ≡ spans .agrees (now (self .entry)) (now (other .entry)) ⌝ }
         ensures shares { λ r. ⌜ (r ≡ true) ↔ Shares (now (self .entry)) (now (other .entry)) ⌝ }
     {
-        self.low <= other.high && other.low <= self.high
+        overlap(self, other)
     }
+}
+
+fn overlap(x: &Span, y: &Span) -> bool
+    ensures answer { λ r. ⌜ r ≡ spans .agrees (now (x .entry)) (now (y .entry)) ⌝ }
+    ensures shares { λ r. ⌜ (r ≡ true) ↔ Shares (now (x .entry)) (now (y .entry)) ⌝ }
+{
+    x.low <= y.high && y.low <= x.high
 }
