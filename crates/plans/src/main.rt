@@ -2,6 +2,8 @@
 
 // the plans of a page
 mod planning;
+#[cfg(test)]
+mod tests;
 
 use books::faults::BookFault;
 use books::faults::BookFaultLine;
