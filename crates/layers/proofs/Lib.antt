@@ -1,0 +1,8 @@
+mod Down
+mod Mapped
+mod Blanks
+mod Entries
+mod Soundness
+mod Handed
+mod Twice
+mod Lowest

@@ -1,0 +1,17 @@
+use Rattle.books.specs.Changes.{withdraw}
+use Rattle.layers.proofs.Down.{changed-up}
+use Rattle.layers.proofs.Handed.{assembly-after, assembly-over}
+use Rattle.layers.proofs.assembly.AssemblyBook.withdraw.Needs as need
+use Rattle.layers.specs.Assemblies.{assemblyMeans}
+use mathlib.Core.Path.{ap, refl, sym, _∙_}
+
+pub returns : need.returns
+returns g c =
+    let kind = g .Reading·Reading .kind in
+    let table = c .args .self .now .table in
+    let m = g .B·Shown .means (c .args .self .now .below) in
+    let change = withdraw (c .args .tag) in
+    let none = sym (c .in-rest .ensures tt) in
+    changed-up kind (g .B·Shown .means) (g .B·Book .rewrites) _ _ change (c .args .self .now .below) (c .withdraw .last .self) _ _ (c .withdraw .result)
+    (assembly-over kind table m) none (c .withdraw .ensures)
+    (λ e. ap (assemblyMeans table) e ∙ assembly-after kind table m change none) (λ w. (w, refl))
