@@ -65,11 +65,11 @@ page-no-misfit None =
     ((λ h. let z : _≡_ {A = ℕ} 0 1 = cc in omega arith), (λ h. let z : _≡_ {A = ℕ} 0 1 = cc in omega arith))
 
 -- what was answered, from the answer
-err-by : (o : Option BookFault) (f : BookFault) → passed o ≡ Err f → o ≡ Some f
+pub err-by : (o : Option BookFault) (f : BookFault) → passed o ≡ Err f → o ≡ Some f
 err-by (Some g) f h = (cc)
 err-by None f h = let z : _≡_ {A = ℕ} 0 1 = cc in absurd (omega arith)
 
-ok-by : (o : Option BookFault) → passed o ≡ Ok tt → o ≡ None
+pub ok-by : (o : Option BookFault) → passed o ≡ Ok tt → o ≡ None
 ok-by (Some g) h = let z : _≡_ {A = ℕ} 0 1 = cc in absurd (omega arith)
 ok-by None h = refl
 
@@ -132,13 +132,13 @@ module _ (page : List ℕ) (width : ℕ) where
       ]
 
   -- the page's own faults
-  well-formed : refusedPage page width ≡ None → WellFormed page width
+  pub well-formed : refusedPage page width ≡ None → WellFormed page width
   well-formed h =
       let p = fine-told h in
       let q = or-none (layoutFault page width) (twiceFault page) (p .2) in
       (p .0, p .1, records-right page width (q .0), tags-once page (q .1))
 
-  by-well-formed : WellFormed page width → refusedPage page width ≡ None
+  pub by-well-formed : WellFormed page width → refusedPage page width ≡ None
   by-well-formed h =
       let l = records-none page width (h .2) in
       let t = tags-none page (h .3) in

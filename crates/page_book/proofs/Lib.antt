@@ -6,3 +6,14 @@ pub mod Wrong
 pub mod Digits
 pub mod Matrix
 pub mod Words
+pub mod Valid
+pub mod Standing
+pub mod Paged
+pub mod Asked
+pub mod Rewriting
+pub mod Amending
+pub mod Allowed
+pub mod Writing
+pub mod Withdrawing
+pub mod Entering
+pub mod Returned

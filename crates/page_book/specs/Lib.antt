@@ -3,3 +3,7 @@ pub mod Lowest
 pub mod Refused
 pub mod Told
 pub mod Rows
+pub mod Places
+pub mod Rewrites
+pub mod Kept
+pub mod ChangedIn

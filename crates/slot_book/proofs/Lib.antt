@@ -1,0 +1,9 @@
+pub mod Walks
+pub mod Rows
+pub mod Standing
+pub mod Valid
+pub mod Asked
+pub mod Opening
+pub mod Writing
+pub mod Changing
+pub mod Changes
