@@ -56,7 +56,8 @@ module _ {R : Type 0} (kind : Kind R) (shut : ℕ → Bool) where
       → cond ((a || b) && not (kind .isBlank x)) (Some fault) rest ≡ None → (cond a (kind .blank) x ≡ x) × (rest ≡ None)
   passing law a b x fault rest h = go a b (kind .isBlank x) refl h
     where
-      go : (a b c : Bool) → kind .isBlank x ≡ c → cond ((a || b) && not c) (Some fault) rest ≡ None → (cond a (kind .blank) x ≡ x) × (rest ≡ None)
+      go : (a b c : Bool) → kind .isBlank x ≡ c → cond ((a || b) && not c) (Some fault) rest ≡ None
+          → (cond a (kind .blank) x ≡ x) × (rest ≡ None)
       go false false c e z = (refl, z)
       go false true true e z = (refl, z)
       go false true false e z = (refl, absurd (some-none z))
@@ -78,7 +79,8 @@ module _ {R : Type 0} (kind : Kind R) (shut : ℕ → Bool) where
       → blanked kind shut test (set xs i r) ≡ set (blanked kind shut test xs) i r
   unfolding blanked
   blanked-set test i [] r e = refl
-  blanked-set test zero (x ∷ xs) r e = ap (λ (y : R). y ∷ blanked kind shut (suc test) xs) (cond-false (shut test) (kind .blank) r (ap shut (sym (add-zero test)) ∙ e))
+  blanked-set test zero (x ∷ xs) r e =
+      ap (λ (y : R). y ∷ blanked kind shut (suc test) xs) (cond-false (shut test) (kind .blank) r (ap shut (sym (add-zero test)) ∙ e))
   blanked-set test (suc i) (x ∷ xs) r e =
       ap (λ (ys : List R). covered kind shut test x ∷ ys) (blanked-set (suc test) i xs r (ap shut (suc-add test i ∙ sym (add-suc test i)) ∙ e))
 

@@ -31,7 +31,8 @@ module _ (table : List ℕ) (part : ℕ) (xs : List ℕ) (i : ℕ) where
   pub wrong-found : i < length xs → rightEntry table (getD xs i 0) ≡ false → wrongFrom table part (drop i xs) ≡ Some part
   wrong-found l e = here l ∙ cond-false (rightEntry table (getD xs i 0)) _ _ e
 
-  pub wrong-more : i < length xs → rightEntry table (getD xs i 0) ≡ true → wrongFrom table part (drop i xs) ≡ wrongFrom table (part + 1) (drop (i + 1) xs)
+  pub wrong-more : i < length xs → rightEntry table (getD xs i 0) ≡ true
+      → wrongFrom table part (drop i xs) ≡ wrongFrom table (part + 1) (drop (i + 1) xs)
   wrong-more l e = here l ∙ cond-true (rightEntry table (getD xs i 0)) _ _ e
 
   pub wrong-none : length xs ≤ i → wrongFrom table part (drop i xs) ≡ None
@@ -69,7 +70,9 @@ module _ (table : List ℕ) (whole : length table ≡ 250) (right : isSome (wron
   assembly-twice part = go (isPart part) refl
     where
       go : (b : Bool) → isPart part ≡ b → assemblyOf table (cond b (getD table (part - 1) 0) part) ≡ cond b (getD table (part - 1) 0) part
-      go true e = eqb-true (assemblyOf table (getD table (part - 1) 0)) (getD table (part - 1) 0) (and-parts (isPart (getD table (part - 1) 0)) _ (entry-right part e) .1)
+      go true e =
+          eqb-true (assemblyOf table (getD table (part - 1) 0)) (getD table (part - 1) 0)
+          (and-parts (isPart (getD table (part - 1) 0)) _ (entry-right part e) .1)
       go false e = cond-false (isPart part) (getD table (part - 1) 0) part e
 
 -- ---- the table in which each part is its own assembly
@@ -105,7 +108,13 @@ first-wrong table part (x ∷ xs) found h = go (rightEntry table x) refl h (firs
         → (wrongFrom table (part + 1) xs ≡ Some found → FirstWrong table (part + 1) xs found) → FirstWrong table part (x ∷ xs) found
     go true e z rest =
         let w = rest z in
-        record { place = suc (w .place); inside = omega (arith, w .inside); counted = omega (arith, w .counted); wrong = w .wrong; before = shift e (w .place) (w .before) }
+        record {
+          place = suc (w .place);
+          inside = omega (arith, w .inside);
+          counted = omega (arith, w .counted);
+          wrong = w .wrong;
+          before = shift e (w .place) (w .before);
+        }
     go false e z rest =
         record { place = 0; inside = omega arith; counted = omega (arith, some-same z); wrong = e; before = λ j l. absurd (omega arith) }
 
@@ -117,13 +126,15 @@ module _ (table : List ℕ) (whole : length table ≡ 250) where
   at-place : (part j : ℕ) → part ≡ 1 + j → j < 250 → rightPart table part ≡ rightEntry table (getD table j 0)
   at-place part j e l =
       let k : part - 1 ≡ j = omega arith in
-      ap (rightEntry table) (cond-true (isPart part) (getD table (part - 1) 0) part (is-part part (omega arith) (omega arith)) ∙ ap (λ (n : ℕ). getD table n 0) k)
+      let one = is-part part (omega arith) (omega arith) in
+      ap (rightEntry table) (cond-true (isPart part) (getD table (part - 1) 0) part one ∙ ap (λ (n : ℕ). getD table n 0) k)
 
   wrong-told : (found : ℕ) → FirstWrong table 1 table found → AssemblyTold table (Err (Wrong found))
   wrong-told found w = (
     is-part found (omega (arith, w .counted)) (omega (arith, w .counted, w .inside)),
     at-place found (w .place) (w .counted) (omega (arith, w .inside)) ∙ w .wrong,
-    λ lower first l. at-place lower (lower - 1) (omega arith) (omega (arith, w .counted, w .inside)) ∙ w .before (lower - 1) (omega (arith, w .counted)),
+    λ lower first l. at-place lower (lower - 1) (omega arith) (omega (arith, w .counted, w .inside))
+        ∙ w .before (lower - 1) (omega (arith, w .counted)),
   )
 
   right-told : isSome (wrongPart table) ≡ false → AssemblyTold table (Ok tt)

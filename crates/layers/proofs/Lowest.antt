@@ -49,7 +49,8 @@ module _ (width tests : ℕ) (small : tests < 2 ^ 32) where
       go (inr l) = l
       go (inl l) =
           let e : width + (test - 1 - width) ≡ test - 1 = omega arith in
-          absurd (has-not (test - 1) tests h (ap (λ (j : ℕ). bit j tests) (sym e) ∙ sym (bit-above width tests (test - 1 - width)) ∙ ap (bit (test - 1 - width)) z ∙ bit-zero (test - 1 - width)))
+          let none = ap (bit (test - 1 - width)) z ∙ bit-zero (test - 1 - width) in
+          absurd (has-not (test - 1) tests h (ap (λ (j : ℕ). bit j tests) (sym e) ∙ sym (bit-above width tests (test - 1 - width)) ∙ none))
 
   is-there : tests / 2 ^ width ≢ 0 → Has (width + 1 + trailingZeros 32 (tests / 2 ^ width) - 1) tests
   is-there ne =
@@ -62,7 +63,8 @@ module _ (width tests : ℕ) (small : tests < 2 ^ 32) where
   none-lower lower above below h =
       let e : width + (lower - 1 - width) ≡ lower - 1 = omega arith in
       let l : lower - 1 - width < trailingZeros 32 (tests / 2 ^ width) = omega arith in
-      has-not (lower - 1) tests h (ap (λ (j : ℕ). bit j tests) (sym e) ∙ sym (bit-above width tests (lower - 1 - width)) ∙ trailing-low 32 (tests / 2 ^ width) (lower - 1 - width) l)
+      let none = trailing-low 32 (tests / 2 ^ width) (lower - 1 - width) l in
+      has-not (lower - 1) tests h (ap (λ (j : ℕ). bit j tests) (sym e) ∙ sym (bit-above width tests (lower - 1 - width)) ∙ none)
 
   pub bar-told : BarTold width tests (passed (barFault width tests))
   bar-told = go (inWidth width tests) refl

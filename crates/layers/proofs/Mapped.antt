@@ -95,7 +95,10 @@ module _ {R : Type 0} (f : Rec R → Rec R) (same : (x : Rec R) → f x .tag ≡
 
   pub rising-map : (xs : List (Rec R)) → Rising xs → Rising (map f xs)
   rising-map [] h = tt
-  rising-map (x ∷ xs) h = (all-map (λ y. f x .tag < y .tag) f xs (all-weaker (λ y. x .tag < y .tag) (λ y. f x .tag < f y .tag) lift xs (h .0)), rising-map xs (h .1))
+  rising-map (x ∷ xs) h = (
+    all-map (λ y. f x .tag < y .tag) f xs (all-weaker (λ y. x .tag < y .tag) (λ y. f x .tag < f y .tag) lift xs (h .0)),
+    rising-map xs (h .1),
+  )
     where
       lift : (y : Rec R) → x .tag < y .tag → f x .tag < f y .tag
       lift y l = rw (same x, same y) l

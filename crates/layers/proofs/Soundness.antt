@@ -18,15 +18,25 @@ use mathlib.Core.Logic.{inl, inr, _⊎_}
 use mathlib.Core.Path.{refl, _∙_, _≡_}
 
 module _ {R : Type 0} (kind : Kind R) (tests : ℕ) (m : Meaning R) (s : Sound kind m) where
-  fits : (x : Rec R) → Fits kind (m .width) (m .closedTest) x → Fits kind (m .width) (λ t. barred (m .width) tests t || m .closedTest t) (underBar kind (barred (m .width) tests) x)
+  abbrev shut : ℕ → Bool
+  shut = barred (m .width) tests
+
+  abbrev shown : Rec R → Rec R
+  shown = underBar kind (barred (m .width) tests)
+
+  -- a record as a bar may hold it
+  abbrev Fit : Rec R → Type 0
+  Fit = Fits kind (m .width) (λ t. barred (m .width) tests t || m .closedTest t)
+
+  fits : (x : Rec R) → Fits kind (m .width) (m .closedTest) x → Fit (shown x)
   fits x h = record {
     tagged = h .tagged;
     parted = h .parted;
-    full = length-blanked kind (barred (m .width) tests) 1 (x .readings) ∙ h .full;
-    blank = blank-blanked kind (barred (m .width) tests) (m .closedTest) 1 (x .readings) (h .blank);
+    full = length-blanked kind shut 1 (x .readings) ∙ h .full;
+    blank = blank-blanked kind shut (m .closedTest) 1 (x .readings) (h .blank);
   }
 
-  within : (test : ℕ) → (barred (m .width) tests test ≡ true) ⊎ (m .closedTest test ≡ true) → isTest (m .width) test ≡ true
+  within : (test : ℕ) → (shut test ≡ true) ⊎ (m .closedTest test ≡ true) → isTest (m .width) test ≡ true
   within test (inl e) = and-parts (isTest (m .width) test) _ e .0
   within test (inr e) = s .tests test e
 
@@ -35,13 +45,10 @@ module _ {R : Type 0} (kind : Kind R) (tests : ℕ) (m : Meaning R) (s : Sound k
     wide = s .wide;
     roomy = s .roomy;
     fitting = rw length-map (s .fitting);
-    tests = λ test e. within test (or-cases (barred (m .width) tests test) (m .closedTest test) e);
+    tests = λ test e. within test (or-cases (shut test) (m .closedTest test) e);
     parts = s .parts;
-    rising = rising-map (underBar kind (barred (m .width) tests)) (λ x. refl) (m .held) (s .rising);
-    records =
-        all-map (Fits kind (m .width) (λ t. barred (m .width) tests t || m .closedTest t)) (underBar kind (barred (m .width) tests)) (m .held)
-        (all-weaker (Fits kind (m .width) (m .closedTest))
-        (λ x. Fits kind (m .width) (λ t. barred (m .width) tests t || m .closedTest t) (underBar kind (barred (m .width) tests) x)) fits (m .held) (s .records));
+    rising = rising-map shown (λ x. refl) (m .held) (s .rising);
+    records = all-map Fit shown (m .held) (all-weaker (Fits kind (m .width) (m .closedTest)) (λ x. Fit (shown x)) fits (m .held) (s .records));
   }
 
 -- only a part belongs to another
@@ -52,8 +59,12 @@ belongs-part table part h = go (isPart part) refl h
     go true e z = e
     go false e z = absurd (both-ways (eqb part part) (not-true (eqb part part) z) (eq-eqb part part refl))
 
-module _ {R : Type 0} (kind : Kind R) (table : List ℕ) (whole : length table ≡ 250) (right : isSome (wrongPart table) ≡ false) (m : Meaning R) (s : Sound kind m) where
-  named : (x : Rec R) → Fits kind (m .width) (m .closedTest) x → Fits kind (m .width) (m .closedTest) (asAssembly table x)
+module _ {R : Type 0} (kind : Kind R) (table : List ℕ) (whole : length table ≡ 250) (right : isSome (wrongPart table) ≡ false)
+    (m : Meaning R) (s : Sound kind m) where
+  abbrev FitBelow : Rec R → Type 0
+  FitBelow = Fits kind (m .width) (m .closedTest)
+
+  named : (x : Rec R) → FitBelow x → FitBelow (asAssembly table x)
   named x h = record { tagged = h .tagged; parted = assembly-part table whole right (x .part) (h .parted); full = h .full; blank = h .blank }
 
   a-part : (part : ℕ) → (belongs table part ≡ true) ⊎ (m .closedPart part ≡ true) → isPart part ≡ true
@@ -68,7 +79,5 @@ module _ {R : Type 0} (kind : Kind R) (table : List ℕ) (whole : length table �
     tests = s .tests;
     parts = λ part e. a-part part (or-cases (belongs table part) (m .closedPart part) e);
     rising = rising-map (asAssembly table) (λ x. refl) (m .held) (s .rising);
-    records =
-        all-map (Fits kind (m .width) (m .closedTest)) (asAssembly table) (m .held)
-        (all-weaker (Fits kind (m .width) (m .closedTest)) (λ x. Fits kind (m .width) (m .closedTest) (asAssembly table x)) named (m .held) (s .records));
+    records = all-map FitBelow (asAssembly table) (m .held) (all-weaker FitBelow (λ x. FitBelow (asAssembly table x)) named (m .held) (s .records));
   }

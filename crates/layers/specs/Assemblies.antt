@@ -71,3 +71,7 @@ assemblyMeans table m = record {
   closedPart = λ part. belongs table part || m .closedPart part;
   held = map (asAssembly table) (m .held);
 }
+
+-- an assembly over itself means what it means once
+abbrev pub TwiceAsOnce : {R : Type 0} → List ℕ → Meaning R → Type 0
+TwiceAsOnce table m = assemblyMeans table (assemblyMeans table m) ≡ assemblyMeans table m

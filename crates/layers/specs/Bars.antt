@@ -13,6 +13,7 @@ use lib.Count.{trailingZeros}
 use lib.Dec.{eqb}
 use mathlib.Core.Bool.{Bool, cond, not, _&&_, _||_}
 use mathlib.Core.List.{List, [], map, _∷_}
+use mathlib.Core.Path.{_≡_}
 
 -- the set holds no test above the width
 abbrev pub inWidth : ℕ → ℕ → Bool
@@ -59,3 +60,7 @@ barMeans kind tests m = record {
   closedPart = m .closedPart;
   held = map (underBar kind (barred (m .width) tests)) (m .held);
 }
+
+-- a bar of one set over a bar of another means what one bar of a third set means
+abbrev pub TwoAsOne : {R : Type 0} → Kind R → ℕ → ℕ → ℕ → Meaning R → Type 0
+TwoAsOne kind lower upper both m = barMeans kind both m ≡ barMeans kind upper (barMeans kind lower m)

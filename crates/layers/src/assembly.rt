@@ -1,6 +1,6 @@
 // An assembly shows each part as the assembly it belongs to, and closes the parts that are not their own assembly.
 
-ghost use Rattle.layers.specs.Assemblies.{AssemblyTold, assemblyFault, assemblyMeans, assemblyOf, ownTable, rightEntry, settled, wrongPart};
+ghost use Rattle.layers.specs.Assemblies.{AssemblyTold, TwiceAsOnce, assemblyFault, assemblyMeans, assemblyOf, ownTable, rightEntry, settled, wrongPart};
 ghost use Rattle.refusals.specs.Faults.{passed};
 ghost use Rattle.std.specs.Options.{isSome};
 ghost use lib.ListN.{length};
@@ -117,7 +117,7 @@ impl<B: Shown> Assembly<B> {
     // The same table laid over once more: it means the same as once.
     pub fn again(self) -> Assembly<Assembly<B>>
         ensures over { λ r. ⌜ (r .below ≡ self) × (r .table ≡ self .table) ⌝ }
-        ensures same { λ r. ⌜ assemblyMeans (r .table) (assemblyMeans (r .below .table) (B·Shown .means (r .below .below))) ≡ assemblyMeans (self .table) (B·Shown .means (self .below)) ⌝ }
+        ensures same { λ r. ⌜ TwiceAsOnce (r .table) (B·Shown .means (r .below .below)) ⌝ }
     {
         lay_again(self)
     }

@@ -1,7 +1,7 @@
 // A bar closes a set of tests of the book below: it shows the blank there, and refuses readings there.
 
 ghost use Prim.Native.Nat.{_≤_};
-ghost use Rattle.layers.specs.Bars.{BarTold, admitted, barFault, barMeans, barred, inWidth};
+ghost use Rattle.layers.specs.Bars.{BarTold, TwoAsOne, admitted, barFault, barMeans, barred};
 ghost use Rattle.refusals.specs.Faults.{passed};
 ghost use lib.Bits.{bitOr};
 ghost use mathlib.Core.Bool.{cond};
@@ -87,7 +87,7 @@ fn admit(width: u32, tests: u32) -> u32
 // Two bars as one, of both sets: it means the same.
 pub fn one_bar<B: Shown>(two: Bar<Bar<B>>) -> Bar<B>
     ensures bar { λ r. ⌜ r ≡ record { below = two .below .below; tests = bitOr (two .below .tests) (two .tests) } ⌝ }
-    ensures same { λ r. ⌜ barMeans (Reading·Reading .kind) (r .tests) (B·Shown .means (r .below)) ≡ barMeans (Reading·Reading .kind) (two .tests) (barMeans (Reading·Reading .kind) (two .below .tests) (B·Shown .means (two .below .below))) ⌝ }
+    ensures same { λ r. ⌜ TwoAsOne (Reading·Reading .kind) (two .below .tests) (two .tests) (r .tests) (B·Shown .means (r .below)) ⌝ }
 {
     join(two)
 }

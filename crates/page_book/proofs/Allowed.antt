@@ -78,12 +78,15 @@ module _ (page : List ℕ) (width : ℕ) (v : valid page width ≡ true) where
       )
 
   -- a free record that is found
-  pub free-found : (k : ℕ) → lowest (sameTag page 0) (recordsIn page) ≡ Some k → (k < recordsIn page) × (tagAt page k ≡ 0)
+  pub free-found : (k : ℕ) → lowest (sameTag page 0) (recordsIn page) ≡ Some k → (k < recordsIn page) × (tagAt page k ≡ 0) × ((i : ℕ) → i < k → tagAt page i ≢ 0)
   free-found k h =
       let p = found-at (sameTag page 0) (recordsIn page) k h in
       let t = true-by _ (p .0) k (p .2) in
-      let same : p .0 ≡ k = t .1 in
-      (omega arith, ap (tagAt page) (sym same) ∙ eqb-true _ _ (t .0))
+      let same : p .0 ≡ k = t .1 in (
+        omega arith,
+        ap (tagAt page) (sym same) ∙ eqb-true _ _ (t .0),
+        λ i l. eqb-false _ _ (false-by _ i (none-below (sameTag page 0) (p .0) (p .3) i (omega arith))),
+      )
 
   -- where the book is not full there is one
   pub free-there : length (gathered (places page width)) ≢ recordsIn page → lowest (sameTag page 0) (recordsIn page) ≢ None

@@ -6,7 +6,7 @@ use lib.Dec.{eqb, leb, ltb}
 use lib.ListN.{getD, length}
 use mathlib.Core.Bool.{_&&_, cond}
 use mathlib.Core.List.{List}
-use mathlib.Core.Logic.{_⊎_}
+use mathlib.Core.Logic.{_⊎_, _≢_}
 use mathlib.Core.Path.{_≡_}
 
 -- byte b of a record: the tag low byte first, the part, zero, the readings and then blanks up to test 24, four zeros
@@ -34,6 +34,10 @@ pub record Rewritten (old new : List ℕ) (k : ℕ) (bytes : ℕ → ℕ) : Type
   pub here : (b : ℕ) → b < 32 → byteAt new k b ≡ bytes b
   pub elsewhere : (i : ℕ) → (i < 32 * k) ⊎ (32 * k + 32 ≤ i) → getD new i 0 ≡ getD old i 0
 
--- some record that has the chosen tag is rewritten as the change says
+-- the lowest record that has the chosen tag is rewritten as the change says
 abbrev pub Rewrites : List ℕ → Change ℕ → List ℕ → Type 0
-Rewrites old change new = (k : ℕ) × (tagAt old k ≡ chosenTag change) × Rewritten old new k (newByte old k change)
+Rewrites old change new =
+    (k : ℕ)
+    × (tagAt old k ≡ chosenTag change)
+    × ((i : ℕ) → i < k → tagAt old i ≢ chosenTag change)
+    × Rewritten old new k (newByte old k change)

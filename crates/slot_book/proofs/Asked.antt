@@ -7,7 +7,7 @@ use Rattle.books.specs.Questions.{find, nextTag, readingAt, readingIn}
 use Rattle.readings.specs.Kinds.{Kind}
 use Rattle.slot_book.proofs.Rows.{getD-rows, length-cells, length-places, within}
 use Rattle.slot_book.proofs.Standing.{lowest-places, occupied-used, place-none, place-some, slot-found, standing-slot}
-use Rattle.slot_book.proofs.Valid.{Facts, facts}
+use Rattle.slot_book.proofs.Valid.{facts}
 use Rattle.slot_book.specs.Found.{lowestTag, slotOf, used}
 use Rattle.slot_book.specs.Slots.{cellsOf, meaning, noSlot, placeOf, places, rightSlot, rowOf, rows, validSlots}
 use Rattle.slot_book.specs.declared.slots.Slot.{Slot}
@@ -30,9 +30,6 @@ use native.Mathlib.Omega.{arith}
 clash : _≡_ {A = ℕ} 0 1 → ⊥
 clash q = omega arith
 
-no-record : {R : Type 0} (x : Rec R) → x .tag ≡ 0 → (1 ≤ x .tag) → ⊥
-no-record x e l = omega arith
-
 module _ {R : Type 0} where
   blank-open : (kind : Kind R) (n : ℕ) (xs : List R) → BlankFrom kind (λ _. false) n xs
   blank-open kind n [] = tt
@@ -45,9 +42,6 @@ module _ {R : Type 0} where
   places-fit kind w [] cs e h = tt
   places-fit kind w (s ∷ ss) cs e (p, h) = (go (cases-eq (s .tag) 0), places-fit kind w ss (drop w cs) rest h)
     where
-      x : Rec R
-      x = rowOf s (take w cs)
-
       long : length cs ≡ length ss * w + w
       long = e ∙ suc-mul (length ss) w
 

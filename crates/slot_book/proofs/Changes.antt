@@ -1,18 +1,16 @@
 -- Each accepted change keeps its promise.
 use Prim.Native.Nat.{ℕ, _*_, _+_, _-_, _<_, _≤_}
-use Rattle.books.specs.Changes.{Change, amend, enter, heldAfter, insert, refused, remove, rereadOf, withdraw}
+use Rattle.books.specs.Changes.{amend, enter, heldAfter, insert, refused, remove, rereadOf, withdraw}
 use Rattle.books.specs.Gathered.{gathered}
-use Rattle.books.specs.Meanings.{Meaning, Rec}
 use Rattle.books.specs.Promises.{Changed}
 use Rattle.books.specs.Questions.{find}
-use Rattle.books.specs.declared.faults.BookFault.{BookFault}
 use Rattle.readings.specs.Kinds.{Kind}
 use Rattle.refusals.specs.Faults.{passed}
 use Rattle.slot_book.proofs.Asked.{book-held, book-lost}
-use Rattle.slot_book.proofs.Changing.{Enters, all-used, amend-turns, amends, enter-turns, enters, present, right-used, withdraw-turns, withdraws}
+use Rattle.slot_book.proofs.Changing.{all-used, amend-turns, amends, enter-turns, enters, present, right-used, withdraw-turns, withdraws}
 use Rattle.slot_book.proofs.Rows.{length-cells, set-put, within}
 use Rattle.slot_book.proofs.Standing.{slot-found}
-use Rattle.slot_book.proofs.Valid.{Facts, facts}
+use Rattle.slot_book.proofs.Valid.{facts}
 use Rattle.slot_book.proofs.Writing.{means-written, valid-written}
 use Rattle.slot_book.specs.Found.{slotOf}
 use Rattle.slot_book.specs.Meant.{meant}
@@ -22,13 +20,11 @@ use Rattle.slot_book.specs.declared.memory.SlotBook.{SlotBook}
 use Rattle.slot_book.specs.declared.slots.Slot.{Slot}
 use Rattle.std.proofs.shelf.Lists.{length-replicate, length-set, set-getD}
 use Rattle.std.specs.declared.option.Option.the-variants.{None, Some}
-use Rattle.std.specs.declared.option.Option.{Option}
-use Rattle.std.specs.declared.result.Result.the-variants.{Err, Ok}
+use Rattle.std.specs.declared.result.Result.the-variants.{Ok}
 use denote.Ref.{now}
 use lib.ListN.{getD, length, replicate, set}
 use mathlib.Core.Bool.{true}
 use mathlib.Core.List.{List}
-use mathlib.Core.Logic.{_≢_}
 use mathlib.Core.Path.{_≡_, ap, refl, sym, _∙_}
 use native.Mathlib.Omega.{arith}
 
@@ -167,9 +163,6 @@ module _ {R : Type 0} where
               (k, i, p),
             );
           }
-
-      pub amend-within : (1 ≤ test) × (test ≤ b .width)
-      amend-within = let h = amends kind (meant b) tag test x e in (h .1, h .2)
 
     pub never-missing : {P : Type 0} (tag test : ℕ) (x : R) → refused kind (meant b) (amend tag test x) ≡ None → slotOf tag (now (b .slots)) ≡ None → P
     never-missing tag test x e f =

@@ -1,35 +1,28 @@
 -- The changes: what the table lets through, and what the writes then make of the book.
-use Prim.Native.Nat.{ℕ, suc, zero, _*_, _+_, _-_, _<_, _≤_}
+use Prim.Native.Nat.{ℕ, suc, _-_, _<_, _≤_}
 use Rattle.books.proofs.Gathering.{gathered-amend, gathered-enter, gathered-find, gathered-withdraw}
-use Rattle.books.specs.Changes.{Change, after, amend, closedReading, enter, heldAfter, insert, refused, remove, reread, rereadOf, withdraw}
+use Rattle.books.specs.Changes.{after, amend, enter, insert, refused, remove, reread, rereadOf, withdraw}
 use Rattle.books.specs.Gathered.{Distinct, gathered, standing}
 use Rattle.books.specs.Meanings.{Meaning, Rec, isPart, isTest}
 use Rattle.books.specs.Questions.{find}
-use Rattle.books.specs.declared.faults.BookFault.{BookFault}
 use Rattle.readings.specs.Kinds.{Kind}
 use Rattle.refusals.specs.Faults.{orElse, when}
-use Rattle.slot_book.proofs.Asked.{book-held, book-lost}
-use Rattle.slot_book.proofs.Rows.{getD-rows, length-cells, length-rows, length-places, set-put, within}
+use Rattle.slot_book.proofs.Rows.{getD-rows, length-rows, length-places}
 use Rattle.slot_book.proofs.Standing.{place-none, place-some, slot-found, standing-slot}
-use Rattle.slot_book.proofs.Valid.{Facts, facts}
-use Rattle.slot_book.proofs.Writing.{means-written, valid-written}
+use Rattle.slot_book.proofs.Valid.{facts}
 use Rattle.slot_book.specs.Found.{slotOf, used}
-use Rattle.slot_book.specs.Meant.{meant}
-use Rattle.slot_book.specs.Rewritten.{Becomes, rewritten}
-use Rattle.slot_book.specs.Slots.{cellsOf, meaning, noSlot, placeOf, places, putCells, rightSlot, rowOf, rows, validSlots}
-use Rattle.slot_book.specs.declared.memory.SlotBook.{SlotBook}
+use Rattle.slot_book.specs.Slots.{cellsOf, meaning, noSlot, placeOf, places, rightSlot, rowOf, rows, validSlots}
 use Rattle.slot_book.specs.declared.slots.Slot.{Slot}
-use Rattle.std.proofs.shelf.Lists.{getD-map, length-replicate, length-set, set-getD}
-use Rattle.std.proofs.shelf.Tests.{and-from, and-parts, cases-eq, cond-false, eqb-false, eqb-true, le-leb, leb-true, ne-eqb, not-false}
+use Rattle.std.proofs.shelf.Lists.{getD-map}
+use Rattle.std.proofs.shelf.Tests.{and-from, and-parts, cond-false, eqb-false, eqb-true, le-leb, leb-true, ne-eqb, not-false}
 use Rattle.std.specs.Options.{isSome, mapped}
 use Rattle.std.specs.declared.option.Option.the-variants.{None, Some}
 use Rattle.std.specs.declared.option.Option.{Option}
-use denote.Ref.{now}
 use lib.Dec.{eqb, leb}
-use lib.ListN.{getD, length, replicate, set}
-use mathlib.Core.Bool.{Bool, _&&_, cond, false, not, true}
+use lib.ListN.{getD, length, set}
+use mathlib.Core.Bool.{Bool, _&&_, cond, false, true}
 use mathlib.Core.List.{List, [], _∷_}
-use mathlib.Core.Logic.{_⊎_, _≢_, inl, inr}
+use mathlib.Core.Logic.{_≢_}
 use mathlib.Core.Path.{_≡_, ap, refl, subst, sym, _∙_}
 use native.Mathlib.Omega.{arith}
 

@@ -6,10 +6,9 @@ use Rattle.books.specs.declared.faults.BookFault.the-variants.{Size, Width}
 use Rattle.books.specs.declared.faults.BookFault.{BookFault}
 use Rattle.readings.specs.Kinds.{Kind}
 use Rattle.refusals.specs.Faults.{leaves, orElse, passed, when}
-use Rattle.slot_book.proofs.Valid.{Facts, valid-from}
-use Rattle.slot_book.specs.Meant.{meant}
+use Rattle.slot_book.proofs.Valid.{valid-from}
 use Rattle.slot_book.specs.Opened.{Opened, holdsNone, refusedSlots}
-use Rattle.slot_book.specs.Slots.{apart, every, fitSlots, meaning, noSlot, places, rightSlot, rows, validSlots}
+use Rattle.slot_book.specs.Slots.{apart, every, meaning, noSlot, places, rightSlot, rows, validSlots}
 use Rattle.slot_book.specs.declared.memory.SlotBook.{SlotBook}
 use Rattle.slot_book.specs.declared.slots.Slot.{Slot}
 use Rattle.std.proofs.shelf.Lists.{append-nil, drop-all, length-replicate, take-all}
@@ -20,10 +19,10 @@ use Rattle.std.specs.declared.option.Option.{Option}
 use Rattle.std.specs.shelf.Lists.{All}
 use denote.Ref.{RefT, name, now}
 use lib.Dec.{eqb, leb}
-use lib.ListN.{drop, length, replicate, take}
+use lib.ListN.{drop, length, replicate}
 use lib.Seq.{paste}
 use mathlib.Core.Bool.{Bool, _&&_, false, not, true}
-use mathlib.Core.List.{List, [], _++_, _∷_}
+use mathlib.Core.List.{List, [], _++_}
 use mathlib.Core.Path.{_≡_, ap, refl, sym, _∙_}
 use native.Mathlib.Omega.{arith}
 

@@ -3,8 +3,7 @@ use Prim.Native.Nat.{ℕ, suc, zero, _*_, _+_, _-_, _<_, _≤_}
 use Rattle.books.specs.Meanings.{Rec}
 use Rattle.slot_book.specs.Slots.{cellsOf, noSlot, placeOf, places, putCells, rowOf, rows}
 use Rattle.slot_book.specs.declared.slots.Slot.{Slot}
-use Rattle.std.proofs.shelf.Lists.{append-assoc, drop-at, drop-drop, length-append, length-drop, length-map, length-take-le, map-set, set-append-left, set-append-right, set-getD, take-append-drop, take-at}
-use Rattle.std.specs.declared.option.Option.{Option}
+use Rattle.std.proofs.shelf.Lists.{append-assoc, drop-at, drop-drop, length-append, length-drop, length-map, length-take-le, map-set, set-append-left, set-append-right, take-append-drop, take-at}
 use lib.ListN.{drop, getD, length, set, take}
 use lib.Seq.{take-add}
 use mathlib.Core.List.{List, [], _++_, _∷_, map}
@@ -123,8 +122,3 @@ module _ {R : Type 0} (w : ℕ) where
     where
       less : (k * w + j) - (k * w) ≡ j
       less = omega arith
-
-  pub rows-reset : (ss : List Slot) (cs : List R) (k : ℕ) (new : List R) → k < length ss → length cs ≡ length ss * w → length new ≡ w
-      → rows w ss (putCells w k new cs) ≡ set (rows w ss cs) k (rowOf (getD ss k noSlot) new)
-  rows-reset ss cs k new l e f =
-      ap (λ (xs : List Slot). rows w xs (putCells w k new cs)) (sym (set-getD ss k noSlot)) ∙ rows-set ss cs k (getD ss k noSlot) new l e f

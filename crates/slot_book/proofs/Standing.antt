@@ -36,9 +36,6 @@ module _ {R : Type 0} (w : ℕ) where
   standing-slot t d nt [] cs = refl
   standing-slot t d nt (s ∷ ss) cs = go (cases-eq (s .tag) 0) (cases-eq (s .tag) t) (standing-slot t d nt ss (drop w cs))
     where
-      x : Rec R
-      x = rowOf s (take w cs)
-
       later : (s .tag ≡ t → ⊥) → standing t (places w ss (drop w cs)) ≡ mapped (λ (k : ℕ). getD (rows w ss (drop w cs)) k d) (slotOf t ss)
           → standing t (places w ss (drop w cs)) ≡ mapped (λ (k : ℕ). getD (rowOf s (take w cs) ∷ rows w ss (drop w cs)) k d) (cond (eqb (s .tag) t) (Some 0) (mapped suc (slotOf t ss)))
       later ne ih =

@@ -12,8 +12,8 @@ use Rattle.std.specs.declared.option.Option.the-variants.{None, Some}
 use Rattle.std.specs.declared.option.Option.{Option}
 use lib.Dec.{eqb, ltb}
 use lib.ListN.{drop, getD, length}
-use mathlib.Core.Bool.{Bool, cond}
-use mathlib.Core.List.{List, _∷_}
+use mathlib.Core.Bool.{Bool}
+use mathlib.Core.List.{List}
 use mathlib.Core.Path.{_≡_, ap, refl, sym, _∙_}
 use native.Mathlib.Omega.{arith}
 

@@ -1,10 +1,10 @@
 -- One slot and its cells written: what is left is a book, and what it means.
-use Prim.Native.Nat.{ℕ, suc, zero, _*_, _+_, _-_, _<_, _≤_}
+use Prim.Native.Nat.{ℕ, _*_, _+_, _-_, _<_}
 use Rattle.books.specs.Gathered.{Distinct, gathered, standing}
 use Rattle.books.specs.Meanings.{Meaning, Rec}
 use Rattle.slot_book.proofs.Rows.{length-put, places-set, within}
 use Rattle.slot_book.proofs.Standing.{place-none, place-some, standing-slot}
-use Rattle.slot_book.proofs.Valid.{Facts, facts, valid-from}
+use Rattle.slot_book.proofs.Valid.{facts, valid-from}
 use Rattle.slot_book.specs.Found.{slotOf}
 use Rattle.slot_book.specs.Rewritten.{Becomes}
 use Rattle.slot_book.specs.Slots.{meaning, noSlot, placeOf, places, putCells, rightSlot, rowOf, rows, validSlots}

@@ -1,5 +1,5 @@
 -- What is found among slots, as a walk over them finds it.
-use Prim.Native.Nat.{ℕ, suc, _+_}
+use Prim.Native.Nat.{ℕ, suc}
 use Rattle.books.specs.Gathered.{lower}
 use Rattle.refusals.specs.Faults.{when}
 use Rattle.slot_book.specs.declared.slots.Slot.{Slot}

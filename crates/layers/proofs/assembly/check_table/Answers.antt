@@ -8,7 +8,8 @@ use mathlib.Core.Path.{subst, sym}
 pub returns : need.returns
 returns c =
     let table = c .args .table .now in
+    let told = assembly-told table (c .told-table) in
     record {
       answer = c .check-entries .ensures;
-      told = subst (λ (r : Result (Unit {0}) AssemblyFault). AssemblyTold table r) (sym (c .check-entries .ensures)) (assembly-told table (c .told-table));
+      told = subst (λ (r : Result (Unit {0}) AssemblyFault). AssemblyTold table r) (sym (c .check-entries .ensures)) told;
     }

@@ -21,7 +21,9 @@ loop-i-again c = (
 
 each-own : (c : need.After-loop-i) → c .loop-i .table ≡ ownTable
 unfolding ownTable
-each-own c = fill-by-all (λ k. k + 1) (c .loop-i .table) 250 0 (c .loop-i .inv .0) (λ k l. c .loop-i .inv .1 k (omega (arith, c .loop-i-test .left)))
+each-own c =
+    fill-by-all (λ k. k + 1) (c .loop-i .table) 250 0 (c .loop-i .inv .0)
+    (λ k l. c .loop-i .inv .1 k (omega (arith, c .loop-i-test .left)))
 
 pub returns : need.returns
 returns c = record { each = each-own c; right = ap (λ (t : List ℕ). isSome (wrongPart t)) (each-own c) ∙ own-right }

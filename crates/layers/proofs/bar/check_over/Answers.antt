@@ -11,5 +11,8 @@ use mathlib.Core.Path.{ap, subst, sym, _∙_, _≡_}
 pub returns : need.returns
 returns g c =
     let width = g .B·Shown .means (c .args .below .now) .width in
-    let answer : c .check-set .result ≡ passed (barFault width (c .args .tests)) = c .check-set .ensures ∙ ap (λ (w : ℕ). passed (barFault w (c .args .tests))) (c .width .ensures) in
-    record { answer = answer; told = subst (λ (r : Result (Unit {0}) BarFault). BarTold width (c .args .tests) r) (sym answer) (bar-told width (c .args .tests) (search needs)) }
+    let tests = c .args .tests in
+    let answer : c .check-set .result ≡ passed (barFault width tests) =
+    c .check-set .ensures ∙ ap (λ (w : ℕ). passed (barFault w tests)) (c .width .ensures) in
+    let told = bar-told width tests (search needs) in
+    record { answer = answer; told = subst (λ (r : Result (Unit {0}) BarFault). BarTold width tests r) (sym answer) told }

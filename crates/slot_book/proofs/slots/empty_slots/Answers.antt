@@ -8,7 +8,7 @@ use Rattle.std.proofs.shelf.Lists.{length-replicate}
 use lib.ListN.{length, replicate, set}
 use lib.Seq.{paste}
 use mathlib.Core.List.{List}
-use mathlib.Core.Path.{_≡_, ap, sym, _∙_}
+use mathlib.Core.Path.{_≡_, ap, _∙_}
 use native.Mathlib.Omega.{arith}
 
 pub loop-k-again : need.loop-k-again

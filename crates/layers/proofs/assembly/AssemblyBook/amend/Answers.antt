@@ -12,6 +12,6 @@ returns g c =
     let m = g .B·Shown .means (c .args .self .now .below) in
     let change = amend (c .args .tag) (c .args .test) (c .args .reading) in
     let none = sym (c .in-rest .ensures tt) in
-    changed-up kind (g .B·Shown .means) (g .B·Book .rewrites) _ _ change (c .args .self .now .below) (c .amend .last .self) _ _ (c .amend .result)
-    (assembly-over kind table m) none (c .amend .ensures)
+    changed-up kind (g .B·Shown .means) (g .B·Book .rewrites) _ _ change (c .args .self .now .below) (c .amend .last .self)
+    _ _ (c .amend .result) (assembly-over kind table m) none (c .amend .ensures)
     (λ e. ap (assemblyMeans table) e ∙ assembly-after kind table m change none) (λ w. (w, refl))

@@ -12,6 +12,6 @@ returns g c =
     let m = g .B·Shown .means (c .args .self .now .below) in
     let change = enter (c .args .tag) (c .args .part) (c .args .readings .now) in
     let none = sym (c .in-rest .ensures tt) in
-    changed-up kind (g .B·Shown .means) (g .B·Book .rewrites) _ _ change (c .args .self .now .below) (c .enter .last .self) _ _ (c .enter .result)
-    (assembly-over kind table m) none (c .enter .ensures)
+    changed-up kind (g .B·Shown .means) (g .B·Book .rewrites) _ _ change (c .args .self .now .below) (c .enter .last .self)
+    _ _ (c .enter .result) (assembly-over kind table m) none (c .enter .ensures)
     (λ e. ap (assemblyMeans table) e ∙ assembly-after kind table m change none) (λ w. (w, refl))

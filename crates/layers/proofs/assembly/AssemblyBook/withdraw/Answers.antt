@@ -12,6 +12,6 @@ returns g c =
     let m = g .B·Shown .means (c .args .self .now .below) in
     let change = withdraw (c .args .tag) in
     let none = sym (c .in-rest .ensures tt) in
-    changed-up kind (g .B·Shown .means) (g .B·Book .rewrites) _ _ change (c .args .self .now .below) (c .withdraw .last .self) _ _ (c .withdraw .result)
-    (assembly-over kind table m) none (c .withdraw .ensures)
+    changed-up kind (g .B·Shown .means) (g .B·Book .rewrites) _ _ change (c .args .self .now .below) (c .withdraw .last .self)
+    _ _ (c .withdraw .result) (assembly-over kind table m) none (c .withdraw .ensures)
     (λ e. ap (assemblyMeans table) e ∙ assembly-after kind table m change none) (λ w. (w, refl))

@@ -34,6 +34,7 @@ returns-in-Some-place-in c =
           (
             c .in-Some-place-in .k,
             place-found (b .page .now) (b .width) (c .args .tag) (c .in-Some-place-in .k) found .2,
+            place-found (b .page .now) (b .width) (c .args .tag) (c .in-Some-place-in .k) found .3,
             amend-rewritten (b .page .now) (b .width) (c .args .tag) (c .args .test) (c .args .reading) (c .in-Some-place-in .k) (b .valid) found (a .0) (a .1) (c .fits .reading .fits),
           ),
           refl,

@@ -55,6 +55,7 @@ returns-in-Some-free-in c =
           (
             c .in-Some-free-in .k,
             free-found (b .page .now) (b .width) (b .valid) (c .in-Some-free-in .k) here .1,
+            free-found (b .page .now) (b .width) (b .valid) (c .in-Some-free-in .k) here .2,
             subst (λ (x : PageBook). Rewritten (x .page .now) (c .write-record .last .page) (c .in-Some-free-in .k) (enteredByte (c .args .tag) (c .args .part) (c .args .readings .now))) same (c .write-record .ensures .after),
           ),
           ap (λ (x : PageBook). x .page .name) same,

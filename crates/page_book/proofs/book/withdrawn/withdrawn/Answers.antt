@@ -36,6 +36,7 @@ returns-in-Some-place-in c =
           (
             c .in-Some-place-in .k,
             place-found (b .page .now) (b .width) (c .args .tag) (c .in-Some-place-in .k) here .2,
+            place-found (b .page .now) (b .width) (c .args .tag) (c .in-Some-place-in .k) here .3,
             subst (λ (x : PageBook). Rewritten (x .page .now) (c .clear-record .last .page) (c .in-Some-place-in .k) (λ _. 0)) same (c .clear-record .ensures),
           ),
           ap (λ (x : PageBook). x .page .name) same,

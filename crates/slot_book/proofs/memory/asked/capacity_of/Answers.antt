@@ -1,7 +1,6 @@
 use Rattle.slot_book.proofs.Valid.{facts}
 use Rattle.slot_book.proofs.memory.asked.capacity_of.Needs as need
 use borrow.Author.Needs.{needs}
-use native.Mathlib.Omega.{arith}
 
 pub cast-result : need.cast-result
 cast-result g c =

@@ -1,5 +1,3 @@
-use Prim.Native.Nat.{_≤_}
-use Rattle.refusals.specs.Faults.{passed}
 use Rattle.slot_book.proofs.Opening.{empty-valid, none-ok, none-valid, opened-none, opened-whole, paste-whole}
 use Rattle.slot_book.proofs.memory.opened.open.Needs as need
 use Rattle.slot_book.specs.Opened.{refusedSlots}

@@ -1,11 +1,11 @@
-use Prim.Native.Nat.{ℕ, _*_, _+_, _<_, _≤_}
+use Prim.Native.Nat.{ℕ, _*_}
 use Rattle.slot_book.proofs.Asked.{book-within}
 use Rattle.slot_book.proofs.Writing.{becomes-as, becomes-none, blank-more, paste-put}
 use Rattle.slot_book.proofs.memory.written.clear_cells.Needs as need
 use Rattle.slot_book.specs.Slots.{putCells}
 use Rattle.std.proofs.shelf.Edits.{paste-none}
 use Rattle.std.proofs.shelf.Lists.{length-replicate}
-use lib.ListN.{length, replicate}
+use lib.ListN.{replicate}
 use lib.Seq.{paste}
 use mathlib.Core.List.{[]}
 use mathlib.Core.Path.{_≡_, ap, refl, _∙_}

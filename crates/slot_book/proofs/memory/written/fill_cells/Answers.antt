@@ -1,4 +1,4 @@
-use Prim.Native.Nat.{_*_, _+_, _<_, _≤_}
+use Prim.Native.Nat.{_*_, _≤_}
 use Rattle.slot_book.proofs.Asked.{book-within}
 use Rattle.slot_book.proofs.Valid.{facts}
 use Rattle.slot_book.proofs.Writing.{becomes-as, becomes-none, fill-more, paste-put}
@@ -6,7 +6,6 @@ use Rattle.slot_book.proofs.memory.written.fill_cells.Needs as need
 use Rattle.slot_book.specs.Slots.{putCells}
 use Rattle.std.proofs.shelf.Edits.{paste-none}
 use borrow.Author.Needs.{needs}
-use lib.ListN.{length}
 use lib.Seq.{paste}
 use mathlib.Core.Path.{_≡_, refl}
 use native.Mathlib.Omega.{arith}

@@ -1,0 +1,4 @@
+// Cases: so far piles of layers over slots, run as tests.
+
+#[cfg(test)]
+mod piles;
