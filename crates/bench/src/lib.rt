@@ -1,5 +1,7 @@
 // The bench: one book, whose plans are listed again after every change.
 
+#![tactic(auto)]
+
 // every fault of a bench, with its number, origin and place
 pub mod faults;
 

@@ -1,5 +1,7 @@
 // Books: what a book is, once, as an interface with a meaning.
 
+#![tactic(auto)]
+
 // every fault of a page and of a book, with its number, origin and place
 pub mod faults;
 

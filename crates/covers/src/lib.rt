@@ -1,5 +1,7 @@
 // Covers: sets of tests as masks, and the listing of all minimal covers of a matrix.
 
+#![tactic(auto)]
+
 // the faults of the cover call
 pub mod faults;
 

@@ -1,5 +1,7 @@
 // Layers: books over any book, that show its records with something closed. They pile in any order and depth.
 
+#![tactic(auto)]
+
 // the faults of the layers' checks, with number, origin and place
 pub mod faults;
 

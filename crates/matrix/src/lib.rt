@@ -1,5 +1,7 @@
 // The matrix of a book: one row for each two held records of different parts, the set of tests that tells them apart.
 
+#![tactic(auto)]
+
 // two records of a book, compared
 mod pairs;
 

@@ -1,5 +1,7 @@
 // The page book: a book laid out in bytes, records of 32 bytes one after another.
 
+#![tactic(auto)]
+
 // a record's bytes: where tag, part and readings stand, and which byte is wrong
 mod layout;
 // tags that stand twice

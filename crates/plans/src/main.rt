@@ -1,5 +1,7 @@
 // The program `plans`: a page of records from standard input; every plan of it, or its refusal, to standard output.
 
+#![tactic(auto)]
+
 // the plans of a page
 mod planning;
 #[cfg(test)]

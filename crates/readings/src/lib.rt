@@ -1,5 +1,7 @@
 // Readings: what a test may show, in several kinds, all under the same laws.
 
+#![tactic(auto)]
+
 // what every kind of reading must show
 pub mod kinds;
 

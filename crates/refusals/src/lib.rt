@@ -1,5 +1,7 @@
 // Refusals: what every refused call tells, and what every fault enum must show.
 
+#![tactic(auto)]
+
 ghost use Rattle.refusals.specs.declared.Refusal.{Refusal};
 ghost use Rattle.std.specs.Prelude.{◌≡◌};
 

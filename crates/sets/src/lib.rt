@@ -1,5 +1,7 @@
 // Sets of tests: a set is a 32-bit number in which test j, from 1, counts 2^(j−1).
 
+#![tactic(auto)]
+
 ghost use Rattle.sets.specs.Sets.{alone, meets as meet};
 ghost use Rattle.std.specs.Prelude.{◌≡◌, length, replicate};
 
