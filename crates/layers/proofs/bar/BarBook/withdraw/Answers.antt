@@ -7,7 +7,7 @@ use Rattle.std.proofs.Common.{sym, refl, ap, ◌∙◌}
 
 pub returns : goal.returns
 returns g c =
-    let kind = g.row.B-Reading-Reading.kind in
+    let kind = g.B.Reading.Reading.kind in
     let tests = c.args.self.now.tests in
     let m = g.B.Shown.means c.args.self.now.below in
     let change = withdraw c.args.tag in
