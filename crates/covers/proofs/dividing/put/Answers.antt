@@ -7,7 +7,7 @@ pub returns : goal.returns
 returns c = record {
   answer = refl;
   after = elim c.if-place-list.branch [
-    | then-place-list w ↦ w.list_is
-    | else-place-list w ↦ w.list_is ∙ sym (set_out c.args.list.now c.args.count c.args.plan w.if-place-list.false)
+    | then-place-list w ↦ w.list-is
+    | else-place-list w ↦ w.list-is ∙ sym (set_out c.args.list.now c.args.count c.args.plan w.if-place-list.false)
   ];
 }

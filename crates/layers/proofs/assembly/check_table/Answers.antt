@@ -9,6 +9,6 @@ returns c =
     let table = c.args.table.now in
     let told = assembly_told table c.told-table in
     record {
-      answer = c.check-entries.ensures;
-      told = subst (λ (r : Result (Unit {0}) AssemblyFault). AssemblyTold table r) (sym c.check-entries.ensures) told;
+      answer = c.check_entries.ensures;
+      told = subst (λ (r : Result (Unit {0}) AssemblyFault). AssemblyTold table r) (sym c.check_entries.ensures) told;
     }

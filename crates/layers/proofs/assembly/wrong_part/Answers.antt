@@ -13,7 +13,7 @@ pub loop-assembly-preserved : goal.loop-assembly-preserved
 loop-assembly-preserved c =
     let table = c.args.table.now in
     let l : c.loop-assembly.assembly-index < length table = omega (arith, c.told-table, c.loop-assembly-test.true) in
-    let right = sym c.if-not-right-entry.ensures in (
+    let right = sym c.if-not-right_entry.ensures in (
       omega (arith, c.loop-assembly.invariant.0),
       sym (wrong_more table c.loop-assembly.part table c.loop-assembly.assembly-index l right) ∙ c.loop-assembly.invariant.1,
     )

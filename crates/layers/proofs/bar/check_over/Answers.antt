@@ -9,7 +9,7 @@ pub returns : goal.returns
 returns g c =
     let width = (g.B.Shown.means c.args.below.now).width in
     let tests = c.args.tests in
-    let answer : c.check-set.result ≡ passed (bar_fault width tests) =
-    c.check-set.ensures ∙ ap (λ (w : ℕ). passed (bar_fault w tests)) c.width.ensures in
+    let answer : c.check_set.result ≡ passed (bar_fault width tests) =
+    c.check_set.ensures ∙ ap (λ (w : ℕ). passed (bar_fault w tests)) c.width.ensures in
     let told = bar_told width tests (search rules) in
     record { answer = answer; told = subst (λ (r : Result (Unit {0}) BarFault). BarTold width tests r) (sym answer) told }

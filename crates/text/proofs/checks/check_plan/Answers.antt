@@ -18,11 +18,11 @@ returns-in-err-check-tests c =
 
 pub returns : goal.returns
 returns c =
-    let none = none_from_ok (tests_from 25 8 c.args.tests) _ c.in-ok-check-tests.ensures in
+    let none = none_from_ok (tests_from 25 8 c.args.tests) _ c.in_ok-check_tests.ensures in
     let plain = plain_none c.args.tests (omega arith) none in
-    let answer = c.check-room.ensures
+    let answer = c.check_room.ensures
     ∙ ap (λ (js : List ℕ). passed (or_else (lowest_outside js) (room_fault c.args.size))) (sym none) in
-    elim (room_or_fault c.args.size c.check-room.ensures) [
+    elim (room_or_fault c.args.size c.check_room.ensures) [
       | inl h ↦ record { answer = answer; room = rw h.0 h.1; told = rw h.0 plain }
       | inr h ↦ record { answer = answer; room = rw h tt; told = rw h plain }
     ]

@@ -11,7 +11,7 @@ returns g c =
     let table = c.args.self.now.table in
     let m = g.B.Shown.means c.args.self.now.below in
     let change = withdraw c.args.tag in
-    let none = sym c.in-default.ensures in
+    let none = sym c.in_default.ensures in
     changed_up kind g.B.Shown.means g.B.Book.rewrites _ _ change c.args.self.now.below c.withdraw.new.self
     _ _ c.withdraw.result (assembly_over kind table m) none c.withdraw.ensures
     (λ e. ap (assembly_means table) e ∙ assembly_after kind table m change none) (λ w. (w, refl))

@@ -8,7 +8,7 @@ pub returns-in-Some : goal.returns-in-Some
 returns-in-Some g c =
     let table = c.args.self.now.table in
     let m = g.B.Shown.means c.args.self.now.below in
-    ap Some c.assembly-of.ensures
+    ap Some c.assembly_of.ensures
     ∙ ap (option_map (assembly_of table)) c.in-Some.ensures
     ∙ sym (part_shown (as_assembly table) (λ x. refl) (assembly_of table) (λ x. refl) c.args.tag m.held)
 

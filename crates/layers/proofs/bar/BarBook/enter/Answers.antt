@@ -11,7 +11,7 @@ returns g c =
     let tests = c.args.self.now.tests in
     let m = g.B.Shown.means c.args.self.now.below in
     let change = enter c.args.tag c.args.part c.args.readings.now in
-    let none = sym c.in-default.ensures in
+    let none = sym c.in_default.ensures in
     changed_up kind g.B.Shown.means g.B.Book.rewrites _ _ change c.args.self.now.below c.enter.new.self
     _ _ c.enter.result (bar_over kind tests m) none c.enter.ensures
     (λ e. ap (bar_means kind tests) e ∙ bar_after kind tests m g.met.B.Reading.Reading.lawful change none) (λ w. (w, refl))

@@ -11,7 +11,7 @@ returns g c =
     let tests = c.args.self.now.tests in
     let m = g.B.Shown.means c.args.self.now.below in
     let change = withdraw c.args.tag in
-    let none = sym c.in-default.ensures in
+    let none = sym c.in_default.ensures in
     changed_up kind g.B.Shown.means g.B.Book.rewrites _ _ change c.args.self.now.below c.withdraw.new.self
     _ _ c.withdraw.result (bar_over kind tests m) none c.withdraw.ensures
     (λ e. ap (bar_means kind tests) e ∙ bar_after kind tests m g.met.B.Reading.Reading.lawful change none) (λ w. (w, refl))

@@ -3,4 +3,4 @@ use Rattle.layers.proofs.bar.BarShown.next_tag.Goals as goal
 use Rattle.std.proofs.Common.{sym, refl, ◌∙◌}
 
 pub returns : goal.returns
-returns g c = c.next-tag.ensures ∙ sym (next_tag_map _ (λ x. refl) c.args.above _)
+returns g c = c.next_tag.ensures ∙ sym (next_tag_map _ (λ x. refl) c.args.above _)
