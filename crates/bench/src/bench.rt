@@ -60,7 +60,7 @@ impl<B: Book> Bench<B> {
 
     // Fills the list with all plans of the book, and answers their number and over.
     pub fn shelve(&mut self, list: &mut [u32], work: &mut [u32]) -> Result<(u32, u32), BenchFault>
-        ensures { Stepped Reading-as-Reading.kind B.Shown.means B.Book.rewrites (shelve (length work.old)) self.old self.new list.old list.new work.old work.new result }
+        ensures { Stepped B.Reading.Reading.kind B.Shown.means B.Book.rewrites (shelve (length work.old)) self.old self.new list.old list.new work.old work.new result }
     {
         shelve_on(self, list, work)
     }
@@ -111,7 +111,7 @@ fn shelve_on<B: Book>(
     list: &mut [u32],
     work: &mut [u32],
 ) -> Result<(u32, u32), BenchFault>
-    ensures { Stepped Reading-as-Reading.kind B.Shown.means B.Book.rewrites (shelve (length work.old)) bench.old bench.new list.old list.new work.old work.new result }
+    ensures { Stepped B.Reading.Reading.kind B.Shown.means B.Book.rewrites (shelve (length work.old)) bench.old bench.new list.old list.new work.old work.new result }
 {
     check_work(work)?;
     Ok(list_again(bench, list, work))
@@ -138,7 +138,7 @@ fn withdraw_on<B: Book>(
     list: &mut [u32],
     work: &mut [u32],
 ) -> Result<(u32, u32), BenchFault>
-    ensures { Stepped Reading-as-Reading.kind B.Shown.means B.Book.rewrites (change (length work.old) (withdraw tag)) bench.old bench.new list.old list.new work.old work.new result }
+    ensures { Stepped B.Reading.Reading.kind B.Shown.means B.Book.rewrites (change (length work.old) (withdraw tag)) bench.old bench.new list.old list.new work.old work.new result }
 {
     check_work(work)?;
     let changed = bench.book.withdraw(tag);
@@ -168,7 +168,7 @@ fn list_changed<B: Book>(
     work: &mut [u32],
 ) -> Result<(u32, u32), BenchFault>
     requires { 2016 ≤ length work.old }
-    ensures { Relisted Reading-as-Reading.kind B.Shown.means B.Book.rewrites changed bench.old bench.new list.old list.new work.old work.new result }
+    ensures { Relisted B.Reading.Reading.kind B.Shown.means B.Book.rewrites changed bench.old bench.new list.old list.new work.old work.new result }
 {
     changed?;
     Ok(list_again(bench, list, work))
@@ -187,7 +187,7 @@ pub(crate) fn check_work(work: &[u32]) -> Result<(), BenchFault>
 // Lists the plans of the book as it is now, and notes the two numbers.
 fn list_again<B: Book>(bench: &mut Bench<B>, list: &mut [u32], work: &mut [u32]) -> (u32, u32)
     requires { 2016 ≤ length work.old }
-    ensures { Listed Reading-as-Reading.kind B.Shown.means bench.old bench.new list.old list.new work.old work.new result }
+    ensures { Listed B.Reading.Reading.kind B.Shown.means bench.old bench.new list.old list.new work.old work.new result }
 {
     let (count, over) = list_plans(&bench.book, list, work);
     bench.count = count;
@@ -198,8 +198,8 @@ fn list_again<B: Book>(bench: &mut Bench<B>, list: &mut [u32], work: &mut [u32])
 // Writes the matrix into the work memory, and lists its minimal covers.
 fn list_plans<B: Shown>(book: &B, list: &mut [u32], work: &mut [u32]) -> (u32, u32)
     requires { 2016 ≤ length work.old }
-    ensures answer { result ≡ told (length list.old) (plans_by Reading-as-Reading.kind (B.Shown.means book.now)) }
-    ensures after { list.new ≡ listed (length list.old) (plans_by Reading-as-Reading.kind (B.Shown.means book.now)) }
+    ensures answer { result ≡ told (length list.old) (plans_by B.Reading.Reading.kind (B.Shown.means book.now)) }
+    ensures after { list.new ≡ listed (length list.old) (plans_by B.Reading.Reading.kind (B.Shown.means book.now)) }
     ensures cleared { work.new ≡ replicate (length work.old) 0 }
 {
     let count = matrix(book, work);

@@ -20,10 +20,10 @@ pub fn plans_for<B: Shown>(
     list: &mut [u32],
     work: &mut [u32],
 ) -> Result<(u32, u32), BenchFault>
-    ensures answer { result ≡ answered (single_fault (B.Shown.means book.now) tag (length work.old)) (counts (length list.old) (plans_for Reading-as-Reading.kind (B.Shown.means book.now) tag)) }
-    ensures after { list.new ≡ leaves (single_fault (B.Shown.means book.now) tag (length work.old)) list.old (listed (length list.old) (plans_for Reading-as-Reading.kind (B.Shown.means book.now) tag)) }
+    ensures answer { result ≡ answered (single_fault (B.Shown.means book.now) tag (length work.old)) (counts (length list.old) (plans_for B.Reading.Reading.kind (B.Shown.means book.now) tag)) }
+    ensures after { list.new ≡ leaves (single_fault (B.Shown.means book.now) tag (length work.old)) list.old (listed (length list.old) (plans_for B.Reading.Reading.kind (B.Shown.means book.now) tag)) }
     ensures cleared { work.new ≡ leaves (single_fault (B.Shown.means book.now) tag (length work.old)) work.old (replicate (length work.old) 0) }
-    ensures plans { IfOk result (λ answer. Singled Reading-as-Reading.kind (B.Shown.means book.now) tag answer.0 answer.1 list.new) }
+    ensures plans { IfOk result (λ answer. Singled B.Reading.Reading.kind (B.Shown.means book.now) tag answer.0 answer.1 list.new) }
 {
     plans_of_tag(book, tag, list, work)
 }
@@ -34,10 +34,10 @@ fn plans_of_tag<B: Shown>(
     list: &mut [u32],
     work: &mut [u32],
 ) -> Result<(u32, u32), BenchFault>
-    ensures answer { result ≡ answered (single_fault (B.Shown.means book.now) tag (length work.old)) (counts (length list.old) (plans_for Reading-as-Reading.kind (B.Shown.means book.now) tag)) }
-    ensures after { list.new ≡ leaves (single_fault (B.Shown.means book.now) tag (length work.old)) list.old (listed (length list.old) (plans_for Reading-as-Reading.kind (B.Shown.means book.now) tag)) }
+    ensures answer { result ≡ answered (single_fault (B.Shown.means book.now) tag (length work.old)) (counts (length list.old) (plans_for B.Reading.Reading.kind (B.Shown.means book.now) tag)) }
+    ensures after { list.new ≡ leaves (single_fault (B.Shown.means book.now) tag (length work.old)) list.old (listed (length list.old) (plans_for B.Reading.Reading.kind (B.Shown.means book.now) tag)) }
     ensures cleared { work.new ≡ leaves (single_fault (B.Shown.means book.now) tag (length work.old)) work.old (replicate (length work.old) 0) }
-    ensures plans { IfOk result (λ answer. Singled Reading-as-Reading.kind (B.Shown.means book.now) tag answer.0 answer.1 list.new) }
+    ensures plans { IfOk result (λ answer. Singled B.Reading.Reading.kind (B.Shown.means book.now) tag answer.0 answer.1 list.new) }
 {
     check_work(work)?;
     if let Some(fault) = withdraw_fault(book, tag) {
@@ -49,8 +49,8 @@ fn plans_of_tag<B: Shown>(
 // Writes the rows of a held record into the work memory, and lists their minimal covers.
 fn list_single<B: Shown>(book: &B, tag: u16, list: &mut [u32], work: &mut [u32]) -> (u32, u32)
     requires { (2016 ≤ length work.old) × (is_some (find tag (B.Shown.means book.now).held) ≡ true) }
-    ensures answer { result ≡ counts (length list.old) (plans_for Reading-as-Reading.kind (B.Shown.means book.now) tag) }
-    ensures after { list.new ≡ listed (length list.old) (plans_for Reading-as-Reading.kind (B.Shown.means book.now) tag) }
+    ensures answer { result ≡ counts (length list.old) (plans_for B.Reading.Reading.kind (B.Shown.means book.now) tag) }
+    ensures after { list.new ≡ listed (length list.old) (plans_for B.Reading.Reading.kind (B.Shown.means book.now) tag) }
     ensures cleared { work.new ≡ replicate (length work.old) 0 }
 {
     match rows_of(book, tag, work) {

@@ -84,7 +84,7 @@ fn admit(width: u32, tests: u32) -> u32
 // Two bars as one, of both sets: it means the same.
 pub fn one_bar<B: Shown>(two: Bar<Bar<B>>) -> Bar<B>
     ensures bar { result ≡ record { below = two.below.below; tests = bit_or two.below.tests two.tests } }
-    ensures same { TwoAsOne Reading-as-Reading.kind two.below.tests two.tests result.tests (B.Shown.means result.below) }
+    ensures same { TwoAsOne B.Reading.Reading.kind two.below.tests two.tests result.tests (B.Shown.means result.below) }
 {
     join(two)
 }

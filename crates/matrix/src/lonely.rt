@@ -17,17 +17,17 @@ use sets::single;
 // The set of tests that alone tell some two held records of different parts apart; wherever there is a plan, the tests common
 // to all plans.
 pub fn core<B: Shown>(book: &B) -> u32
-    ensures answer { result ≡ core_of (matrix_of Reading-as-Reading.kind (B.Shown.means book.now).held) }
-    ensures alone { (j : ℕ) → Has j result ↔ Alone Reading-as-Reading.kind (B.Shown.means book.now).held j }
-    ensures common { Common (matrix_of Reading-as-Reading.kind (B.Shown.means book.now).held) result }
+    ensures answer { result ≡ core_of (matrix_of B.Reading.Reading.kind (B.Shown.means book.now).held) }
+    ensures alone { (j : ℕ) → Has j result ↔ Alone B.Reading.Reading.kind (B.Shown.means book.now).held j }
+    ensures common { Common (matrix_of B.Reading.Reading.kind (B.Shown.means book.now).held) result }
 {
     alone_in(book)
 }
 
 fn alone_in<B: Shown>(book: &B) -> u32
-    ensures answer { result ≡ core_of (matrix_of Reading-as-Reading.kind (B.Shown.means book.now).held) }
-    ensures alone { (j : ℕ) → Has j result ↔ Alone Reading-as-Reading.kind (B.Shown.means book.now).held j }
-    ensures common { Common (matrix_of Reading-as-Reading.kind (B.Shown.means book.now).held) result }
+    ensures answer { result ≡ core_of (matrix_of B.Reading.Reading.kind (B.Shown.means book.now).held) }
+    ensures alone { (j : ℕ) → Has j result ↔ Alone B.Reading.Reading.kind (B.Shown.means book.now).held j }
+    ensures common { Common (matrix_of B.Reading.Reading.kind (B.Shown.means book.now).held) result }
 {
     let mut alone = 0;
     let mut last = 0;
@@ -40,7 +40,7 @@ fn alone_in<B: Shown>(book: &B) -> u32
 
 // The tests that stand alone in some row of a tag's record with a record of a higher tag.
 fn alone_above<B: Shown>(book: &B, tag: u16) -> u32
-    ensures { result ≡ core_of (rows_of Reading-as-Reading.kind (above tag (B.Shown.means book.now).held) (find tag (B.Shown.means book.now).held)) }
+    ensures { result ≡ core_of (rows_of B.Reading.Reading.kind (above tag (B.Shown.means book.now).held) (find tag (B.Shown.means book.now).held)) }
 {
     let mut alone = 0;
     let mut last = tag;

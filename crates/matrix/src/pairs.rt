@@ -19,7 +19,7 @@ pub fn differ<B: Shown>(book: &B, a: u16, b: u16) -> bool
 
 // The tests that tell the records of two tags apart, from the highest test down.
 pub fn row_of<B: Shown>(book: &B, a: u16, b: u16) -> u32
-    ensures { result ≡ row_in Reading-as-Reading.kind (find a (B.Shown.means book.now).held) (find b (B.Shown.means book.now).held) }
+    ensures { result ≡ row_in B.Reading.Reading.kind (find a (B.Shown.means book.now).held) (find b (B.Shown.means book.now).held) }
 {
     let mut row = 0;
     let mut test = book.width();
@@ -32,7 +32,7 @@ pub fn row_of<B: Shown>(book: &B, a: u16, b: u16) -> u32
 
 // 1 where the test tells the two apart, else 0.
 fn tells<B: Shown>(book: &B, a: u16, b: u16, test: u32) -> u32
-    ensures { result ≡ clashing Reading-as-Reading.kind (reading_of (B.Shown.means book.now) a test) (reading_of (B.Shown.means book.now) b test) }
+    ensures { result ≡ clashing B.Reading.Reading.kind (reading_of (B.Shown.means book.now) a test) (reading_of (B.Shown.means book.now) b test) }
 {
     match (book.reading(a, test), book.reading(b, test)) {
         (Some(first), Some(second)) => { if first.agrees(&second) { 0 } else { 1 } }

@@ -17,21 +17,21 @@ use readings::kinds::Reading;
 // Writes the matrix of a book from the first place on and answers how many rows it has; rows for which there is no place are
 // counted and not written, and what stands after the rows stays.
 pub fn matrix<B: Shown>(book: &B, rows: &mut [u32]) -> usize
-    ensures count { result ≡ length (matrix_of Reading-as-Reading.kind (B.Shown.means book.now).held) }
-    ensures after { rows.new ≡ sets rows.old 0 (matrix_of Reading-as-Reading.kind (B.Shown.means book.now).held) }
+    ensures count { result ≡ length (matrix_of B.Reading.Reading.kind (B.Shown.means book.now).held) }
+    ensures after { rows.new ≡ sets rows.old 0 (matrix_of B.Reading.Reading.kind (B.Shown.means book.now).held) }
     ensures few { result ≤ 2016 }
-    ensures means { IsMatrix Reading-as-Reading.kind (Different (B.Shown.means book.now).held) (matrix_of Reading-as-Reading.kind (B.Shown.means book.now).held) }
-    ensures narrow { All (λ row. row < 2 ^ (B.Shown.means book.now).width) (matrix_of Reading-as-Reading.kind (B.Shown.means book.now).held) }
+    ensures means { IsMatrix B.Reading.Reading.kind (Different (B.Shown.means book.now).held) (matrix_of B.Reading.Reading.kind (B.Shown.means book.now).held) }
+    ensures narrow { All (λ row. row < 2 ^ (B.Shown.means book.now).width) (matrix_of B.Reading.Reading.kind (B.Shown.means book.now).held) }
 {
     write_matrix(book, rows)
 }
 
 fn write_matrix<B: Shown>(book: &B, rows: &mut [u32]) -> usize
-    ensures count { result ≡ length (matrix_of Reading-as-Reading.kind (B.Shown.means book.now).held) }
-    ensures after { rows.new ≡ sets rows.old 0 (matrix_of Reading-as-Reading.kind (B.Shown.means book.now).held) }
+    ensures count { result ≡ length (matrix_of B.Reading.Reading.kind (B.Shown.means book.now).held) }
+    ensures after { rows.new ≡ sets rows.old 0 (matrix_of B.Reading.Reading.kind (B.Shown.means book.now).held) }
     ensures few { result ≤ 2016 }
-    ensures means { IsMatrix Reading-as-Reading.kind (Different (B.Shown.means book.now).held) (matrix_of Reading-as-Reading.kind (B.Shown.means book.now).held) }
-    ensures narrow { All (λ row. row < 2 ^ (B.Shown.means book.now).width) (matrix_of Reading-as-Reading.kind (B.Shown.means book.now).held) }
+    ensures means { IsMatrix B.Reading.Reading.kind (Different (B.Shown.means book.now).held) (matrix_of B.Reading.Reading.kind (B.Shown.means book.now).held) }
+    ensures narrow { All (λ row. row < 2 ^ (B.Shown.means book.now).width) (matrix_of B.Reading.Reading.kind (B.Shown.means book.now).held) }
 {
     let mut count = 0;
     let mut last = 0;
@@ -45,21 +45,21 @@ fn write_matrix<B: Shown>(book: &B, rows: &mut [u32]) -> usize
 // Writes the rows of one tag's record with all held records of other parts from the first place on, and answers how many they
 // are; where the tag is not held, nothing is written and the answer is none.
 pub fn rows_of<B: Shown>(book: &B, tag: u16, rows: &mut [u32]) -> Option<usize>
-    ensures answer { result ≡ option_map (λ x. length (rows_with Reading-as-Reading.kind x (B.Shown.means book.now).held)) (find tag (B.Shown.means book.now).held) }
-    ensures after { rows.new ≡ sets rows.old 0 (rows_of Reading-as-Reading.kind (B.Shown.means book.now).held (find tag (B.Shown.means book.now).held)) }
+    ensures answer { result ≡ option_map (λ x. length (rows_with B.Reading.Reading.kind x (B.Shown.means book.now).held)) (find tag (B.Shown.means book.now).held) }
+    ensures after { rows.new ≡ sets rows.old 0 (rows_of B.Reading.Reading.kind (B.Shown.means book.now).held (find tag (B.Shown.means book.now).held)) }
     ensures few { IfSome result (λ n. n ≤ 64) }
-    ensures means { IfSome (find tag (B.Shown.means book.now).held) (λ x. IsMatrix Reading-as-Reading.kind (DifferentFrom x (B.Shown.means book.now).held) (rows_with Reading-as-Reading.kind x (B.Shown.means book.now).held)) }
-    ensures narrow { All (λ row. row < 2 ^ (B.Shown.means book.now).width) (rows_of Reading-as-Reading.kind (B.Shown.means book.now).held (find tag (B.Shown.means book.now).held)) }
+    ensures means { IfSome (find tag (B.Shown.means book.now).held) (λ x. IsMatrix B.Reading.Reading.kind (DifferentFrom x (B.Shown.means book.now).held) (rows_with B.Reading.Reading.kind x (B.Shown.means book.now).held)) }
+    ensures narrow { All (λ row. row < 2 ^ (B.Shown.means book.now).width) (rows_of B.Reading.Reading.kind (B.Shown.means book.now).held (find tag (B.Shown.means book.now).held)) }
 {
     write_rows(book, tag, rows)
 }
 
 fn write_rows<B: Shown>(book: &B, tag: u16, rows: &mut [u32]) -> Option<usize>
-    ensures answer { result ≡ option_map (λ x. length (rows_with Reading-as-Reading.kind x (B.Shown.means book.now).held)) (find tag (B.Shown.means book.now).held) }
-    ensures after { rows.new ≡ sets rows.old 0 (rows_of Reading-as-Reading.kind (B.Shown.means book.now).held (find tag (B.Shown.means book.now).held)) }
+    ensures answer { result ≡ option_map (λ x. length (rows_with B.Reading.Reading.kind x (B.Shown.means book.now).held)) (find tag (B.Shown.means book.now).held) }
+    ensures after { rows.new ≡ sets rows.old 0 (rows_of B.Reading.Reading.kind (B.Shown.means book.now).held (find tag (B.Shown.means book.now).held)) }
     ensures few { IfSome result (λ n. n ≤ 64) }
-    ensures means { IfSome (find tag (B.Shown.means book.now).held) (λ x. IsMatrix Reading-as-Reading.kind (DifferentFrom x (B.Shown.means book.now).held) (rows_with Reading-as-Reading.kind x (B.Shown.means book.now).held)) }
-    ensures narrow { All (λ row. row < 2 ^ (B.Shown.means book.now).width) (rows_of Reading-as-Reading.kind (B.Shown.means book.now).held (find tag (B.Shown.means book.now).held)) }
+    ensures means { IfSome (find tag (B.Shown.means book.now).held) (λ x. IsMatrix B.Reading.Reading.kind (DifferentFrom x (B.Shown.means book.now).held) (rows_with B.Reading.Reading.kind x (B.Shown.means book.now).held)) }
+    ensures narrow { All (λ row. row < 2 ^ (B.Shown.means book.now).width) (rows_of B.Reading.Reading.kind (B.Shown.means book.now).held (find tag (B.Shown.means book.now).held)) }
 {
     match book.part(tag) {
         None => None,
@@ -71,8 +71,8 @@ fn write_rows<B: Shown>(book: &B, tag: u16, rows: &mut [u32]) -> Option<usize>
 // after them.
 fn rows_above<B: Shown>(book: &B, tag: u16, above: u16, rows: &mut [u32], from: usize) -> usize
     requires { from ≤ 2016 }
-    ensures count { result ≡ from + length (rows_of Reading-as-Reading.kind (tagsAbove above (B.Shown.means book.now).held) (find tag (B.Shown.means book.now).held)) }
-    ensures after { rows.new ≡ sets rows.old from (rows_of Reading-as-Reading.kind (tagsAbove above (B.Shown.means book.now).held) (find tag (B.Shown.means book.now).held)) }
+    ensures count { result ≡ from + length (rows_of B.Reading.Reading.kind (tagsAbove above (B.Shown.means book.now).held) (find tag (B.Shown.means book.now).held)) }
+    ensures after { rows.new ≡ sets rows.old from (rows_of B.Reading.Reading.kind (tagsAbove above (B.Shown.means book.now).held) (find tag (B.Shown.means book.now).held)) }
 {
     let mut count = from;
     let mut last = above;

@@ -7,9 +7,9 @@ use Rattle.books.specs.Meanings.{is_part}
 use Rattle.books.specs.Questions.{find}
 use Rattle.books.specs.declared.faults.BookFault.TheVariants.{ClosedPart, ClosedTest, Full, Held, NoTag, NotHeld, Part, Readings, Test}
 use Rattle.books.specs.declared.faults.BookFault.{BookFault}
-use Rattle.page_book.proofs.Lowest.{false_by, found_at, none_below, or_none, true_by}
-use Rattle.page_book.proofs.Paged.{find_places, length_places, place_is, place_used}
-use Rattle.page_book.proofs.Valid.{valid_formed}
+use Rattle.page_book.specs.LowestFacts.{false_by, found_at, none_below, or_none, true_by}
+use Rattle.page_book.specs.Paged.{find_places, length_places, place_is, place_used}
+use Rattle.page_book.specs.Valid.{valid_formed}
 use Rattle.page_book.specs.Layout.{records_in, tag_at}
 use Rattle.page_book.specs.Lowest.{lowest}
 use Rattle.page_book.specs.Places.{page_meaning, place_at, place_of, places, record_at, valid}

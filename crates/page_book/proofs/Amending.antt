@@ -4,9 +4,9 @@ use Rattle.books.proofs.Gathering.{gathered_amend}
 use Rattle.books.specs.Changes.{after, amend, held_after, reread, reread_of}
 use Rattle.books.specs.Gathered.{gathered, standing}
 use Rattle.books.specs.Meanings.{Meaning, Rec}
-use Rattle.page_book.proofs.Paged.{code_is, distinct_places, length_codes, length_places, place_found, place_is, place_used, standing_places}
+use Rattle.page_book.specs.Paged.{code_is, distinct_places, length_codes, length_places, place_found, place_is, place_used, standing_places}
 use Rattle.page_book.proofs.Rewriting.{codes_from, places_set, same_count, still_valid}
-use Rattle.page_book.proofs.Valid.{valid_byte, valid_formed}
+use Rattle.page_book.specs.Valid.{valid_byte, valid_formed}
 use Rattle.page_book.specs.Layout.{Right, RightRecord, byte_at, code_at, part_at, records_in, tag_at}
 use Rattle.page_book.specs.Places.{codes_at, page_meaning, place_at, place_of, places, record_at, valid}
 use Rattle.page_book.specs.Rewrites.{Rewritten, new_byte}

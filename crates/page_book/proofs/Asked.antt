@@ -4,10 +4,10 @@ use Rattle.books.proofs.Gathering.{gathered_length, gathered_next}
 use Rattle.books.specs.Gathered.{lower, lowest_above, occupied}
 use Rattle.books.specs.Meanings.{Rec}
 use Rattle.books.specs.Questions.{next_tag, part_of, reading_at, reading_in, reading_of}
-use Rattle.page_book.proofs.Lowest.{when_false}
-use Rattle.page_book.proofs.Paged.{code_is, find_places, length_codes, length_places, place_free, place_is, place_used}
-use Rattle.page_book.proofs.Standing.{lower_assoc}
-use Rattle.page_book.proofs.Valid.{valid_formed}
+use Rattle.page_book.specs.LowestFacts.{when_false}
+use Rattle.page_book.specs.Paged.{code_is, find_places, length_codes, length_places, place_free, place_is, place_used}
+use Rattle.page_book.specs.Standing.{lower_assoc}
+use Rattle.page_book.specs.Valid.{valid_formed}
 use Rattle.page_book.specs.Layout.{code_at, part_at, records_in, tag_at}
 use Rattle.page_book.specs.Places.{codes_at, page_meaning, place_of, places, record_at, valid}
 use Rattle.refusals.specs.Faults.{when}

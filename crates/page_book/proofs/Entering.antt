@@ -5,10 +5,10 @@ use Rattle.books.specs.Changes.{after, enter, held_after, insert}
 use Rattle.books.specs.Gathered.{gathered, standing}
 use Rattle.books.specs.Meanings.{Rec}
 use Rattle.page_book.proofs.Amending.{meaning_is, record_is}
-use Rattle.page_book.proofs.Paged.{distinct_places, length_places, of_places, place_absent, place_free, place_is, place_used}
+use Rattle.page_book.specs.Paged.{distinct_places, length_places, of_places, place_absent, place_free, place_is, place_used}
 use Rattle.page_book.proofs.Rewriting.{codes_from, places_set, same_count, still_valid}
-use Rattle.page_book.proofs.Standing.{standing_none}
-use Rattle.page_book.proofs.Valid.{valid_formed}
+use Rattle.page_book.specs.Standing.{standing_none}
+use Rattle.page_book.specs.Valid.{valid_formed}
 use Rattle.page_book.specs.Layout.{RightRecord, byte_at, code_at, part_at, records_in, tag_at}
 use Rattle.page_book.specs.Places.{codes_at, page_meaning, place_at, place_of, places, record_at, valid}
 use Rattle.page_book.specs.Rewrites.{Rewritten, entered_byte}

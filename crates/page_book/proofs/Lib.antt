@@ -1,14 +1,6 @@
-pub mod Answered
-pub mod Bytes
-pub mod Lowest
-pub mod Twice
-pub mod Wrong
 pub mod Digits
 pub mod Matrix
 pub mod Words
-pub mod Valid
-pub mod Standing
-pub mod Paged
 pub mod Asked
 pub mod Rewriting
 pub mod Amending

@@ -4,8 +4,8 @@ use Rattle.books.specs.Changes.{Change, after, refused}
 use Rattle.books.specs.Meanings.{Meaning}
 use Rattle.books.specs.Promises.{Changed, Left}
 use Rattle.books.specs.declared.faults.BookFault.{BookFault}
-use Rattle.page_book.proofs.Answered.{err_by}
-use Rattle.page_book.proofs.Valid.{valid_accepted}
+use Rattle.page_book.specs.Answered.{err_by}
+use Rattle.page_book.specs.Valid.{valid_accepted}
 use Rattle.page_book.specs.ChangedIn.{ChangedIn, LeftIn}
 use Rattle.page_book.specs.Kept.{book_means, book_rewrites}
 use Rattle.page_book.specs.Places.{page_meaning}

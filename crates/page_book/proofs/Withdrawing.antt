@@ -4,9 +4,9 @@ use Rattle.books.proofs.Gathering.{gathered_withdraw}
 use Rattle.books.specs.Changes.{after, held_after, remove, withdraw}
 use Rattle.books.specs.Gathered.{gathered, standing}
 use Rattle.page_book.proofs.Amending.{meaning_is}
-use Rattle.page_book.proofs.Paged.{distinct_places, length_places, place_found, place_free, place_is, place_used, standing_places}
+use Rattle.page_book.specs.Paged.{distinct_places, length_places, place_found, place_free, place_is, place_used, standing_places}
 use Rattle.page_book.proofs.Rewriting.{places_set, same_count, still_valid}
-use Rattle.page_book.proofs.Valid.{valid_formed}
+use Rattle.page_book.specs.Valid.{valid_formed}
 use Rattle.page_book.specs.Layout.{RightRecord, records_in, tag_at}
 use Rattle.page_book.specs.Places.{page_meaning, place_at, place_of, places, record_at, valid}
 use Rattle.page_book.specs.Rewrites.{Rewritten}

@@ -7,3 +7,11 @@ pub mod Places
 pub mod Rewrites
 pub mod Kept
 pub mod ChangedIn
+pub mod LowestFacts
+pub mod Standing
+pub mod Bytes
+pub mod WrongBytes
+pub mod Twice
+pub mod Answered
+pub mod Valid
+pub mod Paged

@@ -1,13 +1,14 @@
--- What a valid book answers, and what always holds of what it means.
+-- What a valid book answers.
 use Rattle.std.proofs.Common.{◌≡◌, ℕ, zero, suc, ◌+◌, ◌-◌, ◌*◌, ◌<◌, ◌≤◌, Bool, true, false, cond, ◌&&◌, eqb, leb, ◌≢◌, ◌⊎◌, List, [], ◌∷◌, length, get_or, take, drop, Some, None, Option, sym, refl, ap, ◌∙◌, subst, inl, inr, suc-mul, mul-le-mul, arith}
 use Rattle.books.proofs.Gathering.{Of, gathered_all, gathered_find, gathered_length, gathered_next, gathered_rising, occupied_few}
 use Rattle.books.specs.Gathered.{gathered, standing}
 use Rattle.books.specs.Meanings.{BlankFrom, Fits, Rec, Sound, is_part}
 use Rattle.books.specs.Questions.{find, next_tag, reading_at, reading_in}
 use Rattle.readings.specs.Kinds.{Kind}
-use Rattle.slot_book.proofs.Rows.{get_d_rows, length_cells, length_places, within}
-use Rattle.slot_book.proofs.Standing.{lowest_places, occupied_used, place_none, place_some, slot_found, standing_slot}
-use Rattle.slot_book.proofs.Valid.{facts}
+use Rattle.slot_book.specs.Rows.{get_d_rows, length_cells, length_places, within}
+use Rattle.slot_book.specs.Soundness.{book_sound}
+use Rattle.slot_book.specs.Standing.{lowest_places, occupied_used, place_none, place_some, slot_found, standing_slot}
+use Rattle.slot_book.specs.Valid.{facts}
 use Rattle.slot_book.specs.Found.{lowest_tag, slot_of, used}
 use Rattle.slot_book.specs.Slots.{cells_of, meaning, no_slot, place_of, places, right_slot, row_of, rows, valid_slots}
 use Rattle.slot_book.specs.declared.slots.Slot.{Slot}
@@ -17,39 +18,7 @@ use Rattle.std.proofs.lemmas.Bool.{and_parts, cases_eq, cond-false, leb-true, ne
 use Rattle.std.specs.Option.{option_map}
 use Rattle.std.specs.List.{AllByRecursion as All}
 
-clash : ◌≡◌ {A = ℕ} 0 1 → ⊥
-clash q = omega arith
-
 module _ {R : Type 0} where
-  blank_open : (kind : Kind R) (n : ℕ) (xs : List R) → BlankFrom kind (λ _. false) n xs
-  blank_open kind n [] = tt
-  blank_open kind n (x ∷ xs) = ((λ e. let z : ◌≡◌ {A = ℕ} 0 1 = cc in absurd (clash z)), blank_open kind (suc n) xs)
-
-  -- every record of a slot fits
-  pub places_fit : (kind : Kind R) (w : ℕ) (ss : List Slot) (cs : List R) → length cs ≡ length ss * w → All (λ s. right_slot s ≡ true) ss
-      → All (Of (Fits kind w (λ _. false))) (places w ss cs)
-  unfolding rows
-  places_fit kind w [] cs e h = tt
-  places_fit kind w (s ∷ ss) cs e (p, h) = (go (cases_eq s.tag 0), places_fit kind w ss (drop w cs) rest h)
-    where
-      long : length cs ≡ length ss * w + w
-      long = e ∙ suc-mul (length ss) w
-
-      rest : length (drop w cs) ≡ length ss * w
-      rest = omega (arith, length-drop w cs, long)
-
-      go : (s.tag ≡ 0) ⊎ (s.tag ≢ 0) → Of (Fits kind w (λ _. false)) (place_of (row_of s (take w cs)))
-      go (inl z) = subst (Of (Fits kind w (λ _. false))) (sym (place_none w (row_of s (take w cs)) z)) tt
-      go (inr nz) =
-          let r = and_parts (leb s.tag 65535) (is_part s.part) (sym (cond-false (eqb s.tag 0) (eqb s.part 0) (leb s.tag 65535 && is_part s.part) (ne_eqb s.tag 0 nz)) ∙ p) in
-          subst (Of (Fits kind w (λ _. false))) (sym (place_some w (row_of s (take w cs)) nz))
-          (record {
-            tagged = (omega arith, leb-true s.tag 65535 r.0);
-            parted = r.1;
-            full = length-take-le w cs (omega (arith, long));
-            blank = blank_open kind 1 (take w cs);
-          })
-
   pub standing_zero : (w : ℕ) (ss : List Slot) (cs : List R) → standing 0 (places w ss cs) ≡ None
   unfolding rows standing
   standing_zero w [] cs = refl
@@ -63,19 +32,6 @@ module _ {R : Type 0} where
           ∙ ih
 
   module _ (ss : List Slot) (cs : List R) (w : ℕ) (v : valid_slots ss cs w ≡ true) where
-    pub book_sound : (kind : Kind R) → Sound kind (meaning w ss cs)
-    book_sound kind =
-        let f = facts ss cs w v in
-        record {
-          wide = f.wide;
-          roomy = f.roomy;
-          fitting = omega (arith, gathered_length (places w ss cs), occupied_few (places w ss cs), length_places w ss cs);
-          tests = λ t e. let z : ◌≡◌ {A = ℕ} 0 1 = cc in absurd (clash z);
-          parts = λ t e. let z : ◌≡◌ {A = ℕ} 0 1 = cc in absurd (clash z);
-          rising = gathered_rising (places w ss cs) f.distinct;
-          records = gathered_all (Fits kind w (λ _. false)) (places w ss cs) (places_fit kind w ss cs f.long f.right);
-        }
-
     pub book_held : length (gathered (places w ss cs)) ≡ used ss
     book_held = gathered_length (places w ss cs) ∙ occupied_used w ss cs
 

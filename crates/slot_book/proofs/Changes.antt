@@ -8,9 +8,9 @@ use Rattle.readings.specs.Kinds.{Kind}
 use Rattle.refusals.specs.Faults.{passed}
 use Rattle.slot_book.proofs.Asked.{book_held, book_lost}
 use Rattle.slot_book.proofs.Changing.{all_used, amend_turns, amends, enter_turns, enters, present, right_used, withdraw_turns, withdraws}
-use Rattle.slot_book.proofs.Rows.{length_cells, set_put, within}
-use Rattle.slot_book.proofs.Standing.{slot_found}
-use Rattle.slot_book.proofs.Valid.{facts}
+use Rattle.slot_book.specs.Rows.{length_cells, set_put, within}
+use Rattle.slot_book.specs.Standing.{slot_found}
+use Rattle.slot_book.specs.Valid.{facts}
 use Rattle.slot_book.proofs.Writing.{means_written, valid_written}
 use Rattle.slot_book.specs.Found.{slot_of}
 use Rattle.slot_book.specs.Meant.{meant}

@@ -7,9 +7,9 @@ use Rattle.books.specs.Meanings.{Meaning, Rec, is_part, is_test}
 use Rattle.books.specs.Questions.{find}
 use Rattle.readings.specs.Kinds.{Kind}
 use Rattle.refusals.specs.Faults.{or_else, when}
-use Rattle.slot_book.proofs.Rows.{get_d_rows, length_rows, length_places}
-use Rattle.slot_book.proofs.Standing.{place_none, place_some, slot_found, standing_slot}
-use Rattle.slot_book.proofs.Valid.{facts}
+use Rattle.slot_book.specs.Rows.{get_d_rows, length_rows, length_places}
+use Rattle.slot_book.specs.Standing.{place_none, place_some, slot_found, standing_slot}
+use Rattle.slot_book.specs.Valid.{facts}
 use Rattle.slot_book.specs.Found.{slot_of, used}
 use Rattle.slot_book.specs.Slots.{cells_of, meaning, no_slot, place_of, places, right_slot, row_of, rows, valid_slots}
 use Rattle.slot_book.specs.declared.slots.Slot.{Slot}

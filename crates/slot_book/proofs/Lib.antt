@@ -1,7 +1,4 @@
 pub mod Walks
-pub mod Rows
-pub mod Standing
-pub mod Valid
 pub mod Asked
 pub mod Opening
 pub mod Writing

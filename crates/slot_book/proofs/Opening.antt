@@ -1,12 +1,12 @@
 -- Opening: what the check finds, and what a book over emptied memory is.
-use Rattle.std.proofs.Common.{◌≡◌, ℕ, zero, suc, ◌+◌, ◌*◌, ◌≤◌, Bool, true, false, not, ◌&&◌, eqb, leb, List, [], ◌++◌, length, drop, replicate, is_err, Some, None, Option, sym, refl, ap, ◌∙◌, arith, Bor}
+use Rattle.std.proofs.Common.{◌≡◌, ℕ, zero, suc, ◌+◌, ◌*◌, ◌≤◌, Bool, true, false, not, ◌&&◌, eqb, leb, List, [], ◌++◌, length, drop, replicate, is_err, Some, None, Option, sym, refl, ap, ◌∙◌, arith, MutBor}
 use Rattle.books.specs.Gathered.{Distinct, gathered}
 use Rattle.books.specs.Meanings.{Meaning, Rec}
 use Rattle.books.specs.declared.faults.BookFault.TheVariants.{Size, Width}
 use Rattle.books.specs.declared.faults.BookFault.{BookFault}
 use Rattle.readings.specs.Kinds.{Kind}
 use Rattle.refusals.specs.Faults.{leaves, or_else, passed, when}
-use Rattle.slot_book.proofs.Valid.{valid_from}
+use Rattle.slot_book.specs.Valid.{valid_from}
 use Rattle.slot_book.specs.Opened.{Opened, holds_none, refused_slots}
 use Rattle.slot_book.specs.Slots.{apart, every, meaning, no_slot, places, right_slot, rows, valid_slots}
 use Rattle.slot_book.specs.declared.memory.SlotBook.{SlotBook}
@@ -77,7 +77,7 @@ module _ {R : Type 0} where
         distinct = empty_distinct w (length ss) (replicate (length cs) blank);
       })
 
-  module _ (kind : Kind R) (slots : Bor (List Slot)) (cells : Bor (List R)) (width : ℕ) (b : SlotBook R) where
+  module _ (kind : Kind R) (slots : MutBor (List Slot)) (cells : MutBor (List R)) (width : ℕ) (b : SlotBook R) where
     pub opened_none : is_err (passed (refused_slots slots.now cells.now width)) ≡ true → b.width ≡ 1 → b.slots.now ≡ [] → b.cells.now ≡ []
         → Opened kind slots cells width b
     unfolding gathered rows

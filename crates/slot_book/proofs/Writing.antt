@@ -2,9 +2,9 @@
 use Rattle.std.proofs.Common.{◌≡◌, ℕ, ◌+◌, ◌-◌, ◌*◌, ◌<◌, true, false, ◌≢◌, ◌⊎◌, List, [], ◌∷◌, ◌++◌, length, get_or, take, drop, set, replicate, Some, None, Option, sym, refl, ap, ◌∙◌, subst, inl, inr, arith}
 use Rattle.books.specs.Gathered.{Distinct, gathered, standing}
 use Rattle.books.specs.Meanings.{Meaning, Rec}
-use Rattle.slot_book.proofs.Rows.{length_put, places_set, within}
-use Rattle.slot_book.proofs.Standing.{place_none, place_some, standing_slot}
-use Rattle.slot_book.proofs.Valid.{facts, valid_from}
+use Rattle.slot_book.specs.Rows.{length_put, places_set, within}
+use Rattle.slot_book.specs.Standing.{place_none, place_some, standing_slot}
+use Rattle.slot_book.specs.Valid.{facts, valid_from}
 use Rattle.slot_book.specs.Found.{slot_of}
 use Rattle.slot_book.specs.Rewritten.{Becomes}
 use Rattle.slot_book.specs.Slots.{meaning, no_slot, place_of, places, put_cells, right_slot, row_of, rows, valid_slots}

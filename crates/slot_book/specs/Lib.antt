@@ -3,3 +3,7 @@ pub mod Found
 pub mod Meant
 pub mod Opened
 pub mod Rewritten
+pub mod Rows
+pub mod Standing
+pub mod Valid
+pub mod Soundness

@@ -19,7 +19,7 @@ mod written;
 pub mod changed;
 
 #[derive(Drop)]
-pub struct SlotBook<'a, R: Reading> {
+pub struct SlotBook<'a, R> {
     slots: &'a mut [Slot],
     cells: &'a mut [R],
     width: u32,

@@ -5,6 +5,7 @@ ghost use Rattle.books.specs.Gathered.{lower, lowest_above, occupied};
 ghost use Rattle.books.specs.Questions.{next_tag, part_of, reading_of};
 ghost use Rattle.page_book.specs.Layout.{InSize, records_in, tag_at};
 ghost use Rattle.page_book.specs.Lowest.{lowest};
+ghost use Rattle.page_book.specs.Paged.{page_sound};
 ghost use Rattle.page_book.specs.Places.{page_meaning, place_of, places};
 ghost use Rattle.page_book.specs.Refused.{same_tag};
 ghost use Rattle.refusals.specs.Faults.{when};
@@ -17,6 +18,8 @@ impl Shown for PageBook<'_> {
     type Reading = u8;
 
     ghost means = { λ b. page_meaning b.page.now b.width };
+
+    ghost sound = { λ b. page_sound b.page.now b.width b.valid };
 
     fn width(&self) -> u32 {
         self.width

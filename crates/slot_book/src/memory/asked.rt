@@ -4,6 +4,7 @@ ghost use Rattle.std.specs.Prelude.{◌≡◌, ◌+◌, ◌*◌, ◌<◌, ◌≤
 ghost use Rattle.books.specs.Questions.{next_tag, part_of, reading_of};
 ghost use Rattle.slot_book.specs.Found.{slot_of};
 ghost use Rattle.slot_book.specs.Meant.{meant};
+ghost use Rattle.slot_book.specs.Soundness.{book_sound};
 
 use crate::memory::SlotBook;
 use crate::slots::{count_used, lowest_tag, slot_of};
@@ -14,6 +15,8 @@ impl<R: Reading> Shown for SlotBook<'_, R> {
     type Reading = R;
 
     ghost means = { λ b. meant b };
+
+    ghost sound = { λ b. book_sound b.slots.now b.cells.now b.width b.valid R.Reading.kind };
 
     fn width(&self) -> u32 {
         self.width

@@ -5,12 +5,12 @@ use Rattle.books.specs.Changes.{amend}
 use Rattle.std.proofs.lemmas.Result.{err_from_is_err_and}
 use Rattle.std.proofs.Common.{length, Err, refl, ap, ◌∙◌}
 
-pub returns-in-err-check-work : goal.returns-in-err-check-work
-returns-in-err-check-work g c =
-    let p = err_from_is_err_and c.from-residual.result c.from-residual.ensures.1 in
-    exit_short g.Reading.Reading.kind g.B.Shown.means g.B.Book.rewrites
+pub returns-in_err-check_work : goal.returns-in_err-check_work
+returns-in_err-check_work g c =
+    let p = err_from_is_err_and c.from_residual.result c.from_residual.ensures.1 in
+    exit_short g.B.Reading.Reading.kind g.B.Shown.means g.B.Book.rewrites
     (change (length c.args.work.now) (amend c.args.tag c.args.test c.args.reading)) c.args.bench.now c.args.list.now c.args.work.now
-    c.from-residual.result c.in-err-check-work.field-0.0 refl c.in-err-check-work.ensures (p.1 ∙ ap Err p.2)
+    c.from_residual.result c.in_err-check_work.field-0.0 refl c.in_err-check_work.ensures (p.1 ∙ ap Err p.2)
 
 pub returns : goal.returns
-returns g c = c.list-changed.ensures (amend c.args.tag c.args.test c.args.reading) c.args.bench.now.book c.amend-changed.ensures
+returns g c = c.list_changed.ensures (amend c.args.tag c.args.test c.args.reading) c.args.bench.now.book c.amend-changed.ensures

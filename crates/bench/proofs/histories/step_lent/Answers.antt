@@ -4,6 +4,6 @@ use Rattle.bench.proofs.histories.step_lent.Goals as goal
 
 pub returns : goal.returns
 returns g c =
-    lent_step g.Reading.Reading.kind g.B.Shown.means g.B.Book.rewrites c.args.call.now c.args.bench.now c.step.new.bench
-    c.args.list.now c.step.new.list c.args.work.now c.step.new.work c.fewer-lent.result c.step.result c.number-of.result
-    (c.fewer-lent.ensures ∙ ap (λ (n : ℕ). min n (length c.args.work.now)) c.wanted-by.ensures) c.step.ensures c.step.auto.work c.number-of.ensures
+    lent_step g.B.Reading.Reading.kind g.B.Shown.means g.B.Book.rewrites c.args.call.now c.args.bench.now c.step.new.bench
+    c.args.list.now c.step.new.list c.args.work.now c.step.new.work c.fewer-lent.result c.step.result c.number_of.result
+    (c.fewer-lent.ensures ∙ ap (λ (n : ℕ). min n (length c.args.work.now)) c.wanted_by.ensures) c.step.ensures c.step.auto.work c.number_of.ensures

@@ -6,17 +6,17 @@ use Rattle.books.specs.Questions.{find}
 use Rattle.covers.specs.Answers.{listed, told}
 use Rattle.matrix.specs.Rows.{rows_of}
 
-pub cover-written-requires : goal.cover-written-requires
-cover-written-requires g c =
+pub cover_written-requires : goal.cover_written-requires
+cover_written-requires g c =
     let m = c.in-Some.ensures in
     let book = g.B.Shown.means c.args.book.now in
     let one = find c.args.tag book.held in
     let wide = (g.met.B.Shown.sound c.args.book.now).wide in (
       (omega (arith, wide, c.width.ensures), omega (arith, wide, c.width.ensures)),
       (
-        omega (arith, m.few, c.requires.0, c.rows-of.auto.rows),
-        narrow_written c.args.work.now (rows_of g.Reading.Reading.kind book.held one) c.rows-of.new.rows c.in-Some.count
-            m.after (single_count g.Reading.Reading.kind book one c.in-Some.count m.answer) (omega (arith, m.few)) c.requires.0
+        omega (arith, m.few, c.requires.0, c.rows_of.auto.rows),
+        narrow_written c.args.work.now (rows_of g.B.Reading.Reading.kind book.held one) c.rows_of.new.rows c.in-Some.count
+            m.after (single_count g.B.Reading.Reading.kind book one c.in-Some.count m.answer) (omega (arith, m.few)) c.requires.0
             c.width.result book.width c.width.ensures m.narrow,
       ),
     )
@@ -26,11 +26,11 @@ returns g c =
     let m = c.in-Some.ensures in
     let book = g.B.Shown.means c.args.book.now in
     let one = find c.args.tag book.held in
-    let same = plans_written c.args.work.now (rows_of g.Reading.Reading.kind book.held one) c.rows-of.new.rows c.in-Some.count
-    m.after (single_count g.Reading.Reading.kind book one c.in-Some.count m.answer) (omega (arith, m.few)) c.requires.0
+    let same = plans_written c.args.work.now (rows_of g.B.Reading.Reading.kind book.held one) c.rows_of.new.rows c.in-Some.count
+    m.after (single_count g.B.Reading.Reading.kind book one c.in-Some.count m.answer) (omega (arith, m.few)) c.requires.0
     c.width.result book.width c.width.ensures in
     record {
-      answer = c.cover-written.ensures.answer ∙ ap (told (length c.args.list.now)) same;
-      after = c.cover-written.ensures.after ∙ ap (listed (length c.args.list.now)) same;
-      cleared = c.cover-written.ensures.cleared ∙ ap (λ (n : ℕ). replicate {A = ℕ} n 0) c.rows-of.auto.rows;
+      answer = c.cover_written.ensures.answer ∙ ap (told (length c.args.list.now)) same;
+      after = c.cover_written.ensures.after ∙ ap (listed (length c.args.list.now)) same;
+      cleared = c.cover_written.ensures.cleared ∙ ap (λ (n : ℕ). replicate {A = ℕ} n 0) c.rows_of.auto.rows;
     }

@@ -6,7 +6,7 @@ use Rattle.std.proofs.Common.{sym, subst}
 
 pub returns : goal.returns
 returns g c =
-    let kind = g.row.Reading-Reading.kind in
+    let kind = g.B.Reading.Reading.kind in
     let lower = c.args.two.below in
     let upper = c.args.two.tests in
     record {

@@ -9,7 +9,7 @@ use lib.Bits.{bit_or}
 
 abbrev pub invariant-loop-other : goal.invariant-loop-other
 invariant-loop-other g l =
-    let kind = g.Reading.Reading.kind in
+    let kind = g.B.Reading.Reading.kind in
     let held = (g.B.Shown.means l.book).held in
     bit_or l.alone (core_of (rows_of kind (above l.last held) (find l.tag held))) ≡ core_of (rows_of kind (above l.tag held) (find l.tag held))
 

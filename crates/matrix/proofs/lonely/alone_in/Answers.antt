@@ -11,23 +11,23 @@ use Rattle.matrix.specs.Rows.{matrix_of}
 
 pub loop-tag-smaller : goal.loop-tag-smaller
 loop-tag-smaller g c =
-    let n = next_held g.Reading.Reading.kind (g.B.Shown.means c.args.book.now) (g.met.B.Shown.sound c.args.book.now)
+    let n = next_held g.B.Reading.Reading.kind (g.B.Shown.means c.args.book.now) (g.met.B.Shown.sound c.args.book.now)
     c.loop-tag.last c.in-Some.tag c.in-Some.ensures in
     omega (arith, n.further)
 
 pub loop-tag-preserved : goal.loop-tag-preserved
 loop-tag-preserved g c =
-    cores_put g.Reading.Reading.kind (g.B.Shown.means c.args.book.now) (g.met.B.Shown.sound c.args.book.now)
-    c.loop-tag.last c.loop-tag.alone _ c.in-Some.tag c.alone-above-alone.result
-    c.loop-tag.invariant c.in-Some.ensures c.alone-above-alone.ensures
+    cores_put g.B.Reading.Reading.kind (g.B.Shown.means c.args.book.now) (g.met.B.Shown.sound c.args.book.now)
+    c.loop-tag.last c.loop-tag.alone _ c.in-Some.tag c.alone_above-alone.result
+    c.loop-tag.invariant c.in-Some.ensures c.alone_above-alone.ensures
 
 pub returns : goal.returns
 returns g c =
-    let kind = g.Reading.Reading.kind in
+    let kind = g.B.Reading.Reading.kind in
     let m = g.B.Shown.means c.args.book.now in
     let s = g.met.B.Shown.sound c.args.book.now in
     let is =
-    cores_done kind m s c.loop-tag.last c.loop-tag.alone _ c.loop-tag.invariant c.in-default.ensures
+    cores_done kind m s c.loop-tag.last c.loop-tag.alone _ c.loop-tag.invariant c.in_default.ensures
     ∙ ap core_of (matrix_from_zero kind m s) in
     record {
       answer = is;

@@ -8,7 +8,7 @@ use lib.Bits.{bit_or}
 
 abbrev pub invariant-loop-tag : goal.invariant-loop-tag
 invariant-loop-tag g l =
-    let kind = g.Reading.Reading.kind in
+    let kind = g.B.Reading.Reading.kind in
     let held = (g.B.Shown.means l.book).held in
     bit_or l.alone (core_of (matrix_of kind (above l.last held))) ≡ core_of (matrix_of kind (above 0 held))
 

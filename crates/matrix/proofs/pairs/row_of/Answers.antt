@@ -9,28 +9,28 @@ pub loop-test-init : goal.loop-test-init
 loop-test-init g c =
     let m = g.B.Shown.means c.args.book.now in
     sym
-    (apart_end g.Reading.Reading.kind c.width-test.result (readings_in (find c.args.a m.held))
+    (apart_end g.B.Reading.Reading.kind c.width-test.result (readings_in (find c.args.a m.held))
     (drop c.width-test.result (readings_in (find c.args.b m.held)))
-    (omega (arith, c.width-test.ensures, found_full g.Reading.Reading.kind m (g.met.B.Shown.sound c.args.book.now) c.args.a)))
+    (omega (arith, c.width-test.ensures, found_full g.B.Reading.Reading.kind m (g.met.B.Shown.sound c.args.book.now) c.args.a)))
 
-pub overflow-mul-row : goal.overflow-mul-row
-overflow-mul-row g c =
+pub overflow_mul-row : goal.overflow_mul-row
+overflow_mul-row g c =
     omega (
       arith,
-      row_room g.Reading.Reading.kind (g.B.Shown.means c.args.book.now) (g.met.B.Shown.sound c.args.book.now)
+      row_room g.B.Reading.Reading.kind (g.B.Shown.means c.args.book.now) (g.met.B.Shown.sound c.args.book.now)
           c.args.a c.args.b c.loop-test.test c.loop-test.row c.loop-test-test.true c.loop-test.invariant,
     )
 
-pub overflow-add-row : goal.overflow-add-row
-overflow-add-row g c =
+pub overflow_add-row : goal.overflow_add-row
+overflow_add-row g c =
     let m = g.B.Shown.means c.args.book.now in
-    let room = row_room g.Reading.Reading.kind m (g.met.B.Shown.sound c.args.book.now)
+    let room = row_room g.B.Reading.Reading.kind m (g.met.B.Shown.sound c.args.book.now)
     c.args.a c.args.b c.loop-test.test c.loop-test.row c.loop-test-test.true c.loop-test.invariant in
-    let digit = clashing_le g.Reading.Reading.kind (reading_of m c.args.a c.loop-test.test) (reading_of m c.args.b c.loop-test.test) in
+    let digit = clashing_le g.B.Reading.Reading.kind (reading_of m c.args.a c.loop-test.test) (reading_of m c.args.b c.loop-test.test) in
     omega (arith, c.tells.ensures)
 
 pub loop-test-preserved : goal.loop-test-preserved
 loop-test-preserved g c =
     let m = g.B.Shown.means c.args.book.now in
-    apart_down g.Reading.Reading.kind (find c.args.a m.held) (find c.args.b m.held) c.loop-test.test c.loop-test.row c.tells.result
+    apart_down g.B.Reading.Reading.kind (find c.args.a m.held) (find c.args.b m.held) c.loop-test.test c.loop-test.row c.tells.result
     c.loop-test-test.true c.loop-test.invariant c.tells.ensures

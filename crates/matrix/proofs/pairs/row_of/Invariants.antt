@@ -8,7 +8,7 @@ use Rattle.std.proofs.Common.{◌≡◌, drop}
 abbrev pub invariant-loop-test : goal.invariant-loop-test
 invariant-loop-test g l =
     l.row
-    ≡ apart g.Reading.Reading.kind
+    ≡ apart g.B.Reading.Reading.kind
     (drop l.test (readings_in (find l.a (g.B.Shown.means l.book).held)))
     (drop l.test (readings_in (find l.b (g.B.Shown.means l.book).held)))
 

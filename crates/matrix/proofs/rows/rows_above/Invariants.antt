@@ -8,7 +8,7 @@ use lib.Seq.{sets}
 
 abbrev pub invariant-loop-other : goal.invariant-loop-other
 invariant-loop-other g l =
-    let kind = g.Reading.Reading.kind in
+    let kind = g.B.Reading.Reading.kind in
     let held = (g.B.Shown.means l.book).held in
     Remains (rows_of kind (above l.last held) (find l.tag held)) l.count l.rows
     (l.from + length (rows_of kind (above l.above held) (find l.tag held)))

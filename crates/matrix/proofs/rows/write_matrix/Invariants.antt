@@ -7,7 +7,7 @@ use lib.Seq.{sets}
 
 abbrev pub invariant-loop-tag : goal.invariant-loop-tag
 invariant-loop-tag g l =
-    let kind = g.Reading.Reading.kind in
+    let kind = g.B.Reading.Reading.kind in
     let held = (g.B.Shown.means l.book).held in
     Remains (matrix_of kind (above l.last held)) l.count l.rows
     (length (matrix_of kind (above 0 held))) (sets l.initial.rows 0 (matrix_of kind (above 0 held)))

@@ -7,7 +7,7 @@ use Rattle.std.proofs.Common.{arith}
 
 pub returns-in-None : goal.returns-in-None
 returns-in-None g c =
-    let kind = g.Reading.Reading.kind in
+    let kind = g.B.Reading.Reading.kind in
     let m = g.B.Shown.means c.args.book.now in
     let s = g.met.B.Shown.sound c.args.book.now in
     record {
@@ -20,13 +20,13 @@ returns-in-None g c =
 
 pub returns-in-Some : goal.returns-in-Some
 returns-in-Some g c =
-    let kind = g.Reading.Reading.kind in
+    let kind = g.B.Reading.Reading.kind in
     let m = g.B.Shown.means c.args.book.now in
     let s = g.met.B.Shown.sound c.args.book.now in
     record {
-      answer = some_counts kind m s (find c.args.tag m.held) c.in-Some.field-0 c.rows-above.result c.in-Some.ensures c.rows-above.ensures.count;
-      after = some_written kind m s (find c.args.tag m.held) c.args.rows.now c.rows-above.new.rows c.rows-above.ensures.after;
-      few = omega (arith, c.rows-above.ensures.count, rows_of_few kind m s 0 (find c.args.tag m.held));
+      answer = some_counts kind m s (find c.args.tag m.held) c.in-Some.field-0 c.rows_above.result c.in-Some.ensures c.rows_above.ensures.count;
+      after = some_written kind m s (find c.args.tag m.held) c.args.rows.now c.rows_above.new.rows c.rows_above.ensures.after;
+      few = omega (arith, c.rows_above.ensures.count, rows_of_few kind m s 0 (find c.args.tag m.held));
       means = one_means kind m s (find c.args.tag m.held);
       narrow = one_narrow kind m s c.args.tag;
     }

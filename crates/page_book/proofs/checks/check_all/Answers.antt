@@ -1,7 +1,7 @@
 -- The equation, and from it the words.
 use Rattle.std.proofs.Common.{◌≡◌, ℕ, List, Result, rules}
 use Rattle.books.specs.declared.faults.BookFault.{BookFault}
-use Rattle.page_book.proofs.Answered.{accepted, against_layout, misfit, tag_twice}
+use Rattle.page_book.specs.Answered.{accepted, against_layout, misfit, tag_twice}
 use Rattle.page_book.proofs.checks.check_all.Goals as goal
 use Rattle.page_book.specs.Refused.{refused_page}
 use Rattle.page_book.specs.Told.{Accepted, AgainstLayout, Misfit, TagTwice}
@@ -24,11 +24,11 @@ told page width r e = record {
   twice = tag_twice page width r e;
 }
 
-pub returns-in-err-check-fit : goal.returns-in-err-check-fit
-returns-in-err-check-fit c = told c.args.page.now c.args.width _ (search rules)
+pub returns-in_err-check_fit : goal.returns-in_err-check_fit
+returns-in_err-check_fit c = told c.args.page.now c.args.width _ (search rules)
 
-pub returns-in-err-check-records : goal.returns-in-err-check-records
-returns-in-err-check-records c = told c.args.page.now c.args.width _ (search rules)
+pub returns-in_err-check_records : goal.returns-in_err-check_records
+returns-in_err-check_records c = told c.args.page.now c.args.width _ (search rules)
 
 pub returns : goal.returns
 returns c = told c.args.page.now c.args.width _ (search rules)

@@ -1,6 +1,6 @@
 -- The loop looks for the lowest record with a wrong byte.
 use Rattle.std.proofs.Common.{◌≡◌, ◌/◌, length, Some, sym, ap, arith}
-use Rattle.page_book.proofs.Lowest.{lowest_found, lowest_more, lowest_none, named}
+use Rattle.page_book.specs.LowestFacts.{lowest_found, lowest_more, lowest_none, named}
 use Rattle.page_book.proofs.checks.check_layout.Goals as goal
 use Rattle.books.specs.declared.faults.PageFault.TheVariants.{Layout}
 use Rattle.page_book.specs.Layout.{records_in}
@@ -19,7 +19,7 @@ returns-in-Some c =
 
 pub loop-k-preserved : goal.loop-k-preserved
 loop-k-preserved c =
-    lowest_more _ c.loop-k.k c.loop-k.invariant (ap (layout_of c.loop-k.k) (sym c.in-default.ensures))
+    lowest_more _ c.loop-k.k c.loop-k.invariant (ap (layout_of c.loop-k.k) (sym c.in_default.ensures))
 
 pub returns : goal.returns
 unfolding layout_fault

@@ -10,8 +10,8 @@ pub loop-p-init : goal.loop-p-init
 unfolding apart
 loop-p-init c = refl
 
-pub overflow-add-row : goal.overflow-add-row
-overflow-add-row c =
+pub overflow_add-row : goal.overflow_add-row
+overflow_add-row c =
     let below = apart_lt c.args.page.now c.args.i c.args.k c.loop-p.p in
     omega (arith, c.loop-p.invariant, one_shl c.loop-p.p 32 (omega arith), pow_below c.loop-p.p 24 (omega arith))
 
@@ -20,10 +20,10 @@ loop-p-preserved c =
     elim c.if-not-compatible.branch [
       | then-not-compatible w ↦
           (let more = row_more c.args.page.now c.args.i c.args.k c.loop-p.p _ _ c.loop-p.row
-          c.code-at.ensures c.code-at-in-loop-p.ensures w.if-not-compatible.ensures (omega arith) c.loop-p.invariant in
+          c.code_at.ensures c.code_at-in-loop-p.ensures w.if-not-compatible.ensures (omega arith) c.loop-p.invariant in
           omega (arith, w.row-is))
       | else-not-compatible w ↦
           (let same = row_same c.args.page.now c.args.i c.args.k c.loop-p.p _ _ c.loop-p.row
-          c.code-at.ensures c.code-at-in-loop-p.ensures w.if-not-compatible.ensures c.loop-p.invariant in
+          c.code_at.ensures c.code_at-in-loop-p.ensures w.if-not-compatible.ensures c.loop-p.invariant in
           omega (arith, w.row-is))
     ]

@@ -10,17 +10,17 @@ unfolding rows_with
 loop-i-init c = (sym (add-zero c.args.from), refl)
 
 -- there is room for one more
-room : (c : goal.After-row-of) → c.loop-i.count < length c.loop-i.rows
+room : (c : goal.After-row_of) → c.loop-i.count < length c.loop-i.rows
 room c = omega (arith, length_rows c.args.page.now c.args.k c.loop-i.i)
 
-pub offset-bounds-rows-count : goal.offset-bounds-rows-count
-offset-bounds-rows-count c = omega (arith, room c)
+pub offset_bounds-rows-count : goal.offset_bounds-rows-count
+offset_bounds-rows-count c = omega (arith, room c)
 
 pub bounds-rows-count : goal.bounds-rows-count
 bounds-rows-count c = room c
 
-pub overflow-add-count : goal.overflow-add-count
-overflow-add-count c = omega (arith, room c)
+pub overflow_add-count : goal.overflow_add-count
+overflow_add-count c = omega (arith, room c)
 
 pub loop-i-preserved : goal.loop-i-preserved
 loop-i-preserved c =
@@ -28,7 +28,7 @@ loop-i-preserved c =
       | then-differ w ↦
           (let e = rows_one c.args.page.now c.args.k c.loop-i.i w.if-differ.ensures in
           let p = written_more c.args.rows.now c.loop-i.rows _ (_ ∷ []) _ c.args.from c.loop-i.count c.loop-i.invariant.0 c.loop-i.invariant.1 e in
-          (omega (arith, p.0, w.count-is), w.rows-is ∙ ap (set c.loop-i.rows c.loop-i.count) w.row-of.ensures ∙ p.1))
+          (omega (arith, p.0, w.count-is), w.rows-is ∙ ap (set c.loop-i.rows c.loop-i.count) w.row_of.ensures ∙ p.1))
       | else-differ w ↦
           (let e = rows_none c.args.page.now c.args.k c.loop-i.i w.if-differ.ensures in
           (w.count-is ∙ rw e c.loop-i.invariant.0, w.rows-is ∙ rw e c.loop-i.invariant.1))

@@ -9,15 +9,15 @@ pub loop-k-init : goal.loop-k-init
 unfolding matrix_to
 loop-k-init c = (refl, refl)
 
-pub rows-with-count-requires : goal.rows-with-count-requires
-rows-with-count-requires c = (omega arith, omega (arith, matrix_room c.args.page.now c.loop-k.k (omega arith)))
+pub rows_with-count-requires : goal.rows_with-count-requires
+rows_with-count-requires c = (omega arith, omega (arith, matrix_room c.args.page.now c.loop-k.k (omega arith)))
 
 pub loop-k-preserved : goal.loop-k-preserved
 loop-k-preserved c =
     let e = matrix_more c.args.page.now c.loop-k.k in
     let n : c.loop-k.count ≡ 0 + length (matrix_to c.args.page.now c.loop-k.k) = omega arith in
     let p = written_more c.args.rows.now c.loop-k.rows _ _ _ 0 c.loop-k.count n c.loop-k.invariant.1 e in
-    (omega (arith, p.0), c.rows-with-count.ensures.after ∙ p.1)
+    (omega (arith, p.0), c.rows_with-count.ensures.after ∙ p.1)
 
 pub returns : goal.returns
 returns c =

@@ -1,6 +1,6 @@
 -- The loop looks for the lowest record whose tag stands in an earlier one.
 use Rattle.std.proofs.Common.{◌≡◌, ◌/◌, length, Some, sym, ap, arith}
-use Rattle.page_book.proofs.Lowest.{lowest_found, lowest_more, lowest_none, named, when_false, when_true}
+use Rattle.page_book.specs.LowestFacts.{lowest_found, lowest_more, lowest_none, named, when_false, when_true}
 use Rattle.page_book.proofs.tags.check_tags.Goals as goal
 use Rattle.books.specs.declared.faults.PageFault.TheVariants.{Twice}
 use Rattle.page_book.specs.Layout.{records_in}
@@ -10,16 +10,16 @@ use Rattle.page_book.specs.Refused.{twice_at, twice_fault}
 pub loop-k-init : goal.loop-k-init
 loop-k-init c = lowest_none (twice_at c.args.page.now)
 
-pub returns-then-stands-earlier : goal.returns-then-stands-earlier
+pub returns-then-stands_earlier : goal.returns-then-stands_earlier
 unfolding twice_fault
-returns-then-stands-earlier c =
+returns-then-stands_earlier c =
     named (λ n. Some (Twice n)) passed _ c.loop-k.k _ (omega arith)
     (lowest_found (twice_at c.args.page.now) c.loop-k.k (records_in c.args.page.now) _ c.loop-k.invariant
-    (when_true _ _ (sym c.if-stands-earlier.ensures)) (omega arith))
+    (when_true _ _ (sym c.if-stands_earlier.ensures)) (omega arith))
 
 pub loop-k-preserved : goal.loop-k-preserved
 loop-k-preserved c =
-    lowest_more _ c.loop-k.k c.loop-k.invariant (when_false _ _ (sym c.if-stands-earlier.ensures))
+    lowest_more _ c.loop-k.k c.loop-k.invariant (when_false _ _ (sym c.if-stands_earlier.ensures))
 
 pub returns : goal.returns
 unfolding twice_fault

@@ -24,27 +24,27 @@ handed page rows count answer few after =
     ap (take (count - 0)) (after ∙ ap (λ (o : Option BookFault). leaves o zeros (sets zeros 0 (matrix_of page))) p.0)
     ∙ taken zeros (matrix_of page) count p.1 few
 
-pub cover-rows-requires : goal.cover-rows-requires
+pub cover_rows-requires : goal.cover_rows-requires
 unfolding zeros
-cover-rows-requires c =
-    let known = c.in-ok-count.ensures in
-    subst (All (λ s. s < 2 ^ 24)) (sym (handed c.args.page.now c.matrix.new.rows c.in-ok-count.count known.answer known.fits known.after)) known.below
+cover_rows-requires c =
+    let known = c.in_ok-count.ensures in
+    subst (All (λ s. s < 2 ^ 24)) (sym (handed c.args.page.now c.matrix.new.rows c.in_ok-count.count known.answer known.fits known.after)) known.below
 
 pub returns : goal.returns
 unfolding zeros
 returns c =
-    let known = c.in-ok-count.ensures in
+    let known = c.in_ok-count.ensures in
     let page = c.args.page.now in
     let list = c.args.list.now in
-    let is = handed page c.matrix.new.rows c.in-ok-count.count known.answer known.fits known.after in
-    let none : refused_page page 24 ≡ None = (answered_ok (refused_page page 24) c.in-ok-count.count (length (matrix_of page)) known.answer).0 in
+    let is = handed page c.matrix.new.rows c.in_ok-count.count known.answer known.fits known.after in
+    let none : refused_page page 24 ≡ None = (answered_ok (refused_page page 24) c.in_ok-count.count (length (matrix_of page)) known.answer).0 in
     record {
       answer =
-          ap Ok (c.cover-rows.ensures.answer ∙ ap (λ (rows : List ℕ). told (length list) (plans_of rows 24)) is)
+          ap Ok (c.cover_rows.ensures.answer ∙ ap (λ (rows : List ℕ). told (length list) (plans_of rows 24)) is)
           ∙ sym (ap (λ (o : Option BookFault). answered o (told (length list) (plans_of (matrix_of page) 24))) none);
       after =
-          c.cover-rows.ensures.after ∙ ap (λ (rows : List ℕ). listed (length list) (plans_of rows 24)) is
+          c.cover_rows.ensures.after ∙ ap (λ (rows : List ℕ). listed (length list) (plans_of rows 24)) is
           ∙ sym (ap (λ (o : Option BookFault). leaves o list (listed (length list) (plans_of (matrix_of page) 24))) none);
       rows = known.means;
-      plans = subst (λ (rows : List ℕ). Lists rows (plans_of rows 24)) is c.cover-rows.ensures.plans;
+      plans = subst (λ (rows : List ℕ). Lists rows (plans_of rows 24)) is c.cover_rows.ensures.plans;
     }

@@ -8,5 +8,5 @@ loop-i-init g c = paste_none c.args.cells.now c.args.start []
 pub loop-i-preserved : goal.loop-i-preserved
 loop-i-preserved g c =
     ap (set c.loop-i.cells (c.args.start + c.loop-i.i)) c.blank.ensures
-    ∙ ap (λ (xs : List g.row.R.Denot). set xs (c.args.start + c.loop-i.i) g.row.R-Reading.kind.blank) c.loop-i.invariant
-    ∙ fill_from_more c.args.cells.now c.args.start c.loop-i.i g.row.R-Reading.kind.blank (omega arith)
+    ∙ ap (λ (xs : List g.row.R.Denot). set xs (c.args.start + c.loop-i.i) g.R.Reading.kind.blank) c.loop-i.invariant
+    ∙ fill_from_more c.args.cells.now c.args.start c.loop-i.i g.R.Reading.kind.blank (omega arith)

@@ -9,7 +9,7 @@ pub loop-slot-preserved : goal.loop-slot-preserved
 loop-slot-preserved c =
     elim c.if-above-slot.branch [
       | then-above-slot w ↦
-          ap (λ (o : Option ℕ). lower o (lowest_tag c.args.above (drop (c.loop-slot.slot-index + 1) c.args.slots.now))) (w.best-is ∙ w.lower-of-best.ensures)
+          ap (λ (o : Option ℕ). lower o (lowest_tag c.args.above (drop (c.loop-slot.slot-index + 1) c.args.slots.now))) (w.best-is ∙ w.lower_of-best.ensures)
           ∙ sym (lowest_more c.args.slots.now c.loop-slot.slot-index c.args.above c.loop-slot.best c.loop-slot-test.true w.if-above-slot.true)
           ∙ c.loop-slot.invariant
       | else-above-slot w ↦

@@ -6,10 +6,10 @@ use Rattle.text.specs.Refused.{lowest_outside, room_fault}
 use Rattle.refusals.specs.Faults.{or_else, passed}
 use Rattle.text.specs.Sets.{tests_from}
 
-pub returns-in-err-check-tests : goal.returns-in-err-check-tests
-returns-in-err-check-tests c =
-    let p = err_from_is_err_and c.from-residual.result c.from-residual.ensures.1 in
-    let e = c.in-err-check-tests.ensures in
+pub returns-in_err-check_tests : goal.returns-in_err-check_tests
+returns-in_err-check_tests c =
+    let p = err_from_is_err_and c.from_residual.result c.from_residual.ensures.1 in
+    let e = c.in_err-check_tests.ensures in
     rw (p.1, p.2) (record {
       answer = outside_answer (tests_from 25 8 c.args.tests) _ (room_fault c.args.size) e;
       room = tt;

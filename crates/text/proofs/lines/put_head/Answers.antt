@@ -6,15 +6,15 @@ use Rattle.text.proofs.lines.put_head.Goals as goal
 use Rattle.text.proofs.lines.put_head.Goals.{Joined-over, then-over, else-over}
 use Rattle.text.specs.Printed.{head_line, line_feed}
 
-pub put-number-counted-requires : goal.put-number-counted-requires
-put-number-counted-requires c =
+pub put_number-counted-requires : goal.put_number-counted-requires
+put_number-counted-requires c =
     omega (
       arith,
       length_decimal_32 c.args.count (omega arith),
     )
 
-pub put-bytes-end-requires : goal.put-bytes-end-requires
-put-bytes-end-requires c =
+pub put_bytes-end-requires : goal.put_bytes-end-requires
+put_bytes-end-requires c =
     omega (
       arith,
       length_decimal_32 c.args.count (omega arith),
@@ -32,28 +32,28 @@ ended c =
     let named =
     wrote_more
     (wrote_none c.args.buffer.now 0) (codes "plans ")
-    c.put-bytes-named.ensures.next c.put-bytes-named.ensures.after
+    c.put_bytes-named.ensures.next c.put_bytes-named.ensures.after
     in
     let counted =
     wrote_more
     named (decimal c.args.count)
-    c.put-number-counted.ensures.next c.put-number-counted.ensures.after
+    c.put_number-counted.ensures.next c.put_number-counted.ensures.after
     in
     elim c.if-over.branch [
       | then-over w ↦
           rw w.if-over.true
           (wrote_more
           counted (codes " over")
-          (w.end-is ∙ w.put-bytes-end.ensures.next)
-          (w.buffer-is ∙ w.put-bytes-end.ensures.after))
+          (w.end-is ∙ w.put_bytes-end.ensures.next)
+          (w.buffer-is ∙ w.put_bytes-end.ensures.after))
       | else-over w ↦ rw w.if-over.false (wrote_more counted [] (omega (arith, w.end-is)) w.buffer-is)
     ]
 
-pub put-bytes-requires : goal.put-bytes-requires
+pub put_bytes-requires : goal.put_bytes-requires
 unfolding head_line
-put-bytes-requires c =
+put_bytes-requires c =
     wrote_room
-    (ended (goal.at.put-bytes-requires c).Joined-over)
+    (ended (goal.at.put_bytes-requires c).Joined-over)
     (length_head c.args.count c.args.over (omega arith))
     (omega arith)
 
@@ -63,7 +63,7 @@ returns c =
     let small = length_head c.args.count c.args.over (omega arith) in
     let line =
     wrote_more
-    (ended (goal.at.returns c).Joined-over) line_feed c.put-bytes.ensures.next c.put-bytes.ensures.after
+    (ended (goal.at.returns c).Joined-over) line_feed c.put_bytes.ensures.next c.put_bytes.ensures.after
     in
     record {
       next = wrote_place line;

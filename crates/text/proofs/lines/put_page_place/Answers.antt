@@ -4,25 +4,25 @@ use Rattle.text.proofs.Wrote.{wrote_none, wrote_more}
 use Rattle.text.proofs.lines.put_page_place.Goals as goal
 use Rattle.text.specs.Printed.{page_place}
 
-pub put-bytes-of-record-requires : goal.put-bytes-of-record-requires
-put-bytes-of-record-requires c = omega (arith, length_place c.args.record c.args.byte)
+pub put_bytes-of_record-requires : goal.put_bytes-of_record-requires
+put_bytes-of_record-requires c = omega (arith, length_place c.args.record c.args.byte)
 
-pub put-number-recorded-requires : goal.put-number-recorded-requires
-put-number-recorded-requires c = omega (arith, length_place c.args.record c.args.byte)
+pub put_number-recorded-requires : goal.put_number-recorded-requires
+put_number-recorded-requires c = omega (arith, length_place c.args.record c.args.byte)
 
-pub put-bytes-of-byte-requires : goal.put-bytes-of-byte-requires
-put-bytes-of-byte-requires c = omega (arith, length_place c.args.record c.args.byte)
+pub put_bytes-of_byte-requires : goal.put_bytes-of_byte-requires
+put_bytes-of_byte-requires c = omega (arith, length_place c.args.record c.args.byte)
 
-pub put-number-requires : goal.put-number-requires
-put-number-requires c = omega (arith, length_place c.args.record c.args.byte)
+pub put_number-requires : goal.put_number-requires
+put_number-requires c = omega (arith, length_place c.args.record c.args.byte)
 
 pub returns : goal.returns
 unfolding page_place
 returns c =
-    let a = c.put-bytes-of-record.ensures in
-    let b = c.put-number-recorded.ensures in
-    let d = c.put-bytes-of-byte.ensures in
-    let e = c.put-number.ensures in
+    let a = c.put_bytes-of_record.ensures in
+    let b = c.put_number-recorded.ensures in
+    let d = c.put_bytes-of_byte.ensures in
+    let e = c.put_number.ensures in
     let none = wrote_none c.args.buffer.now c.args.at in
     let one = wrote_more none (codes " record ") a.next a.after in
     let two = wrote_more one (decimal c.args.record) b.next b.after in

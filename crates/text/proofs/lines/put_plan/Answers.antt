@@ -20,7 +20,7 @@ ended : (c : Joined-listed-eq0)
 ended c =
     let start = c.args.buffer.now in
     let js = tests_from 1 24 c.args.tests in
-    let tests = c.put-tests-listed.ensures in
+    let tests = c.put_tests-listed.ensures in
     elim c.if-listed-eq0.branch [
       | then-listed-eq0 w ↦
           let small = small_tests 1 24 c.args.tests (omega arith) in
@@ -29,8 +29,8 @@ ended c =
           rw none
           (wrote_more
           (wrote_none start 0) (codes "-")
-          (w.end-is ∙ w.put-bytes-end.ensures.next)
-          (w.buffer-is ∙ w.put-bytes-end.ensures.after ∙ ap (λ (b : List ℕ). sets b 0 (codes "-")) same))
+          (w.end-is ∙ w.put_bytes-end.ensures.next)
+          (w.buffer-is ∙ w.put_bytes-end.ensures.after ∙ ap (λ (b : List ℕ). sets b 0 (codes "-")) same))
       | else-listed-eq0 w ↦
           rw (listed_some js (λ e. w.if-listed-eq0.false (tests.next ∙ e)))
           (record {
@@ -39,11 +39,11 @@ ended c =
           })
     ]
 
-pub put-bytes-requires : goal.put-bytes-requires
+pub put_bytes-requires : goal.put_bytes-requires
 unfolding plan_line
-put-bytes-requires c =
+put_bytes-requires c =
     wrote_room
-    (ended (goal.at.put-bytes-requires c).Joined-listed-eq0)
+    (ended (goal.at.put_bytes-requires c).Joined-listed-eq0)
     (length_plan c.args.tests)
     (omega arith)
 
@@ -54,7 +54,7 @@ returns c =
     let line =
     wrote_more
     (ended (goal.at.returns c).Joined-listed-eq0) line_feed
-    c.put-bytes.ensures.next c.put-bytes.ensures.after
+    c.put_bytes.ensures.next c.put_bytes.ensures.after
     in
     record {
       next = wrote_place line;

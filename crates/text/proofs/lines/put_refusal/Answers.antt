@@ -3,18 +3,18 @@ use Rattle.text.proofs.Decimal.{length_decimal_32}
 use Rattle.text.proofs.Widths.{length_place, length_refusal}
 use Rattle.text.proofs.Wrote.{Wrote, wrote_none, wrote_more, wrote_all, wrote_place, wrote_room}
 use Rattle.text.proofs.lines.put_refusal.Goals as goal
-use Rattle.text.proofs.lines.put_refusal.Goals.{Joined-is-of-page, then-is-of-page, else-is-of-page}
+use Rattle.text.proofs.lines.put_refusal.Goals.{Joined-is_of_page, then-is_of_page, else-is_of_page}
 use Rattle.text.specs.Printed.{refusal_line, line_feed, of_page, page_place}
 
-pub put-number-numbered-requires : goal.put-number-numbered-requires
-put-number-numbered-requires c =
+pub put_number-numbered-requires : goal.put_number-numbered-requires
+put_number-numbered-requires c =
     omega (
       arith,
       length_decimal_32 c.args.number (omega arith),
     )
 
-pub put-page-place-end-requires : goal.put-page-place-end-requires
-put-page-place-end-requires c =
+pub put_page_place-end-requires : goal.put_page_place-end-requires
+put_page_place-end-requires c =
     omega (
       arith,
       length_decimal_32 c.args.number (omega arith),
@@ -24,42 +24,42 @@ put-page-place-end-requires c =
     )
 
 -- all but the line feed
-ended : (c : Joined-is-of-page)
+ended : (c : Joined-is_of_page)
     → Wrote
     c.args.buffer.now
     0
     (codes "refused "
     ++ decimal c.args.number
     ++ cond (of_page c.args.number) (page_place c.args.record c.args.byte) [])
-    c.if-is-of-page.end
-    c.if-is-of-page.buffer
+    c.if-is_of_page.end
+    c.if-is_of_page.buffer
 ended c =
     let named =
     wrote_more
     (wrote_none c.args.buffer.now 0) (codes "refused ")
-    c.put-bytes-named.ensures.next c.put-bytes-named.ensures.after
+    c.put_bytes-named.ensures.next c.put_bytes-named.ensures.after
     in
     let numbered =
     wrote_more
     named (decimal c.args.number)
-    c.put-number-numbered.ensures.next c.put-number-numbered.ensures.after
+    c.put_number-numbered.ensures.next c.put_number-numbered.ensures.after
     in
-    elim c.if-is-of-page.branch [
-      | then-is-of-page w ↦
-          rw (sym w.if-is-of-page.ensures)
+    elim c.if-is_of_page.branch [
+      | then-is_of_page w ↦
+          rw (sym w.if-is_of_page.ensures)
           (wrote_more
           numbered (page_place c.args.record c.args.byte)
-          (w.end-is ∙ w.put-page-place-end.ensures.next)
-          (w.buffer-is ∙ w.put-page-place-end.ensures.after))
-      | else-is-of-page w ↦
-          rw (sym w.if-is-of-page.ensures) (wrote_more numbered [] (omega (arith, w.end-is)) w.buffer-is)
+          (w.end-is ∙ w.put_page_place-end.ensures.next)
+          (w.buffer-is ∙ w.put_page_place-end.ensures.after))
+      | else-is_of_page w ↦
+          rw (sym w.if-is_of_page.ensures) (wrote_more numbered [] (omega (arith, w.end-is)) w.buffer-is)
     ]
 
-pub put-bytes-requires : goal.put-bytes-requires
+pub put_bytes-requires : goal.put_bytes-requires
 unfolding refusal_line
-put-bytes-requires c =
+put_bytes-requires c =
     wrote_room
-    (ended (goal.at.put-bytes-requires c).Joined-is-of-page)
+    (ended (goal.at.put_bytes-requires c).Joined-is_of_page)
     (length_refusal c.args.number c.args.record c.args.byte (omega arith) (omega arith) (omega arith))
     (omega arith)
 
@@ -71,8 +71,8 @@ returns c =
     in
     let line =
     wrote_more
-    (ended (goal.at.returns c).Joined-is-of-page) line_feed
-    c.put-bytes.ensures.next c.put-bytes.ensures.after
+    (ended (goal.at.returns c).Joined-is_of_page) line_feed
+    c.put_bytes.ensures.next c.put_bytes.ensures.after
     in
     record {
       next = wrote_place line;

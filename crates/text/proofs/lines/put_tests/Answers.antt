@@ -11,8 +11,8 @@ pub loop-test-init : goal.loop-test-init
 unfolding tests_from
 loop-test-init c = wrote_none c.args.buffer.now 0
 
-pub put-test-at-requires : goal.put-test-at-requires
-put-test-at-requires c =
+pub put_test-at-requires : goal.put_test-at-requires
+put_test-at-requires c =
     let e : 1 + (c.loop-test.test - 1) ≡ c.loop-test.test = omega arith in
     let place = wrote_place c.loop-test.invariant in
     omega (
@@ -30,7 +30,7 @@ loop-test-preserved c =
           rw (tests_in_more test s (omega arith) (omega arith) (sym w.if-contains.ensures), ← wrote_place w₀)
           (wrote_more
           w₀ (next_test c.loop-test.at test)
-          (w.at-is ∙ w.put-test-at.ensures.next) (w.buffer-is ∙ w.put-test-at.ensures.after))
+          (w.at-is ∙ w.put_test-at.ensures.next) (w.buffer-is ∙ w.put_test-at.ensures.after))
       | else-contains w ↦
           rw (tests_out_more test s (omega arith) (sym w.if-contains.ensures), w.at-is, w.buffer-is) w₀
     ]

@@ -20,13 +20,13 @@ fronted t c =
       | else-number-lt10 w ↦
           rw (front_some c.args.number w.if-number-lt10.false)
           (record {
-            place = w.ones-is ∙ w.put-number-ones.ensures.next;
-            bytes = w.buffer-is ∙ w.put-number-ones.ensures.after;
+            place = w.ones-is ∙ w.put_number-ones.ensures.next;
+            bytes = w.buffer-is ∙ w.put_number-ones.ensures.after;
           })
     ]
 
-pub put-number-ones-requires : goal.put-number-ones-requires
-put-number-ones-requires t c = (
+pub put_number-ones-requires : goal.put_number-ones-requires
+put_number-ones-requires t c = (
   omega arith,
   omega (
     arith,
@@ -40,16 +40,16 @@ bounds-buffer-ones t c =
     let w = fronted t (goal.at.bounds-buffer-ones t c).Joined-number-lt10 in
     omega (arith, longer c.args.number (omega arith))
 
-pub overflow-add-result : goal.overflow-add-result
-overflow-add-result t c =
-    let w = fronted t (goal.at.overflow-add-result t c).Joined-number-lt10 in
+pub overflow_add-result : goal.overflow_add-result
+overflow_add-result t c =
+    let w = fronted t (goal.at.overflow_add-result t c).Joined-number-lt10 in
     omega (arith, longer c.args.number (omega arith))
 
 pub returns : goal.returns
 returns t c =
     let w = fronted t (goal.at.returns t c).Joined-number-lt10 in
-    let whole = wrote_more w (c.last-digit.result ∷ []) refl refl in
-    let text = ap (λ (d : ℕ). front c.args.number ++ d ∷ []) c.last-digit.ensures
+    let whole = wrote_more w (c.last_digit.result ∷ []) refl refl in
+    let text = ap (λ (d : ℕ). front c.args.number ++ d ∷ []) c.last_digit.ensures
     ∙ sym (decimal_front c.args.number (omega arith)) in
     let all = rw text at whole in
     record { next = all.place; after = all.bytes }

@@ -1,4 +1,4 @@
-use Rattle.page_book.proofs.Valid.{bytes_from}
+use Rattle.page_book.specs.Valid.{bytes_from}
 use Rattle.page_book.proofs.book.opened.look.Goals as goal
 use Rattle.std.proofs.Common.{arith}
 
@@ -6,4 +6,4 @@ pub returns-then-page-eq0 : goal.returns-then-page-eq0
 returns-then-page-eq0 c = bytes_from c.args.page.now (λ i l. absurd (omega arith))
 
 pub returns : goal.returns
-returns c = bytes_from c.args.page.now (λ i l. (c.type-inv.page i).fits)
+returns c = bytes_from c.args.page.now (λ i l. (c.type_inv.page i).fits)

@@ -1,5 +1,5 @@
 use Rattle.books.proofs.Gathering.{gathered_length}
-use Rattle.page_book.proofs.Valid.{valid_formed}
+use Rattle.page_book.specs.Valid.{valid_formed}
 use Rattle.page_book.proofs.book.shown.held_of.Goals as goal
 use Rattle.page_book.specs.Places.{places}
 use Rattle.std.proofs.Common.{sym, ◌∙◌}

@@ -4,5 +4,5 @@ use Rattle.std.proofs.Common.{sym, ◌∙◌}
 
 pub returns : goal.returns
 returns g c =
-    c.lowest-tag.ensures
+    c.lowest_tag.ensures
     ∙ sym (book_next c.args.book.now.slots.now c.args.book.now.cells.now c.args.book.now.width c.args.book.now.valid c.args.above)

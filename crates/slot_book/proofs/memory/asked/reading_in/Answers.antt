@@ -16,7 +16,7 @@ returns-then-tag-eq0 g c =
 pub returns-then-test-lt1 : goal.returns-then-test-lt1
 returns-then-test-lt1 g c =
     let b = c.args.book.now in
-    sym (reading_outside b.slots.now b.cells.now b.width b.valid g.row.R-Reading.kind c.args.tag c.args.test
+    sym (reading_outside b.slots.now b.cells.now b.width b.valid g.R.Reading.kind c.args.tag c.args.test
     (elim c.then-test-lt1.branch [
       | then-test-lt1-via-then-test-lt1 w ↦ inl w.if-test-lt1.true
       | then-test-lt1-via-else-test-lt1+then-test-book w ↦ inr w.if-test-book.true

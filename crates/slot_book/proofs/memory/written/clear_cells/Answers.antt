@@ -16,13 +16,13 @@ pub loop-i-preserved : goal.loop-i-preserved
 loop-i-preserved g c =
     let a = c.args.book.now in
     let h = book_within a.slots.now a.cells.now a.width a.valid c.args.k c.requires.inside in
-    blank_more a c.loop-i.book c.set-cell.new.book c.args.k c.loop-i.i c.blank.result g.row.R-Reading.kind.blank
-    c.loop-i.invariant c.set-cell.ensures (omega arith) c.blank.ensures
+    blank_more a c.loop-i.book c.set_cell.new.book c.args.k c.loop-i.i c.blank.result g.R.Reading.kind.blank
+    c.loop-i.invariant c.set_cell.ensures (omega arith) c.blank.ensures
 
 pub returns : goal.returns
 returns g c =
     let a = c.args.book.now in
-    let y = g.row.R-Reading.kind.blank in
+    let y = g.R.Reading.kind.blank in
     let e : c.loop-i.i ≡ a.width = omega arith in
     becomes_as a c.loop-i.book a.slots.now (paste a.cells.now (c.args.k * a.width) (replicate c.loop-i.i y) c.loop-i.i) a.slots.now (put_cells a.width c.args.k (replicate a.width y) a.cells.now)
     c.loop-i.invariant refl

@@ -1,6 +1,6 @@
 use Rattle.std.proofs.Common.{◌≡◌, ◌*◌, ◌≤◌, refl, arith, rules}
 use Rattle.slot_book.proofs.Asked.{book_within}
-use Rattle.slot_book.proofs.Valid.{facts}
+use Rattle.slot_book.specs.Valid.{facts}
 use Rattle.slot_book.proofs.Writing.{becomes_as, becomes_none, fill_more, paste_put}
 use Rattle.slot_book.proofs.memory.written.fill_cells.Goals as goal
 use Rattle.slot_book.specs.Slots.{put_cells}
@@ -12,8 +12,8 @@ loop-i-init g c =
     let a = c.args.book.now in
     becomes_none a (paste a.cells.now (c.args.k * a.width) c.args.readings.now 0) (paste_none a.cells.now (c.args.k * a.width) c.args.readings.now)
 
-pub overflow-cast-i : goal.overflow-cast-i
-overflow-cast-i g c =
+pub overflow_cast-i : goal.overflow_cast-i
+overflow_cast-i g c =
     let a = c.args.book.now in
     let f = (facts a.slots.now a.cells.now a.width a.valid).wide in
     let m : c.loop-i.i ≤ 24 = omega (arith, c.requires.full) in
@@ -23,8 +23,8 @@ pub loop-i-preserved : goal.loop-i-preserved
 loop-i-preserved g c =
     let a = c.args.book.now in
     let h = book_within a.slots.now a.cells.now a.width a.valid c.args.k c.requires.inside in
-    fill_more a c.loop-i.book c.set-cell.new.book c.args.k c.loop-i.i c.index-readings-i.result c.args.readings.now
-    c.loop-i.invariant c.set-cell.ensures (omega (arith, c.requires.full)) c.loop-i-test.true c.index-readings-i.is
+    fill_more a c.loop-i.book c.set_cell.new.book c.args.k c.loop-i.i c.index-readings-i.result c.args.readings.now
+    c.loop-i.invariant c.set_cell.ensures (omega (arith, c.requires.full)) c.loop-i-test.true c.index-readings-i.is
 
 pub returns : goal.returns
 returns g c =

@@ -4,22 +4,22 @@ use Rattle.slot_book.proofs.Writing.{valid_cells}
 use Rattle.slot_book.proofs.memory.written.set_cell.Goals as goal
 use Rattle.std.proofs.lemmas.List.{length-set}
 
-pub overflow-mul-at : goal.overflow-mul-at
-overflow-mul-at g c =
+pub overflow_mul-at : goal.overflow_mul-at
+overflow_mul-at g c =
     let b = c.args.book.now in
     let h = book_within b.slots.now b.cells.now b.width b.valid c.args.k c.requires.inside in
     let m : c.args.k * b.width ≤ 1536 = omega arith in
     search rules
 
-pub overflow-add-at : goal.overflow-add-at
-overflow-add-at g c =
+pub overflow_add-at : goal.overflow_add-at
+overflow_add-at g c =
     let b = c.args.book.now in
     let h = book_within b.slots.now b.cells.now b.width b.valid c.args.k c.requires.inside in
     let m : c.args.k * b.width + c.args.place ≤ 1536 = omega (arith, c.requires.within) in
     search rules
 
-pub offset-bounds-book-at : goal.offset-bounds-book-at
-offset-bounds-book-at g c =
+pub offset_bounds-book-at : goal.offset_bounds-book-at
+offset_bounds-book-at g c =
     let b = c.args.book.now in
     let h = book_within b.slots.now b.cells.now b.width b.valid c.args.k c.requires.inside in
     let m : c.args.k * b.width + c.args.place < length b.cells.now = omega (arith, c.requires.within) in
@@ -32,10 +32,11 @@ bounds-book-at g c =
     let m : c.args.k * b.width + c.args.place < length b.cells.now = omega (arith, c.requires.within) in
     search rules
 
-pub invariant-of-book : goal.invariant-of-book
-invariant-of-book g c =
-    let b = c.args.book.now in (
-      valid_cells b.slots.now b.cells.now b.width b.valid (set b.cells.now (c.args.k * b.width + c.args.place) c.args.reading)
-          (length-set b.cells.now (c.args.k * b.width + c.args.place) c.args.reading),
-      tt,
-    )
+pub invariant_of-book : goal.invariant_of-book
+invariant_of-book g c =
+    let b = c.args.book.now in
+    record {
+      valid =
+          valid_cells b.slots.now b.cells.now b.width b.valid (set b.cells.now (c.args.k * b.width + c.args.place) c.args.reading)
+          (length-set b.cells.now (c.args.k * b.width + c.args.place) c.args.reading);
+    }

@@ -1,8 +1,8 @@
 -- Records against the layout: the lowest wrong byte of a record, and the lowest wrong record of the page.
 use Rattle.std.proofs.Common.{◌≡◌, ℕ, ◌<◌, List, Some, None, Option, refl, ap, subst, arith}
 use Rattle.books.specs.declared.faults.PageFault.TheVariants.{Layout, Twice}
-use Rattle.page_book.proofs.Bytes.{none_at, right_at, some_at, wrong_at_lem}
-use Rattle.page_book.proofs.Lowest.{found_at, lowest_found, none_below, none_from_below}
+use Rattle.page_book.specs.Bytes.{none_at, right_at, some_at, wrong_at_lem}
+use Rattle.page_book.specs.LowestFacts.{found_at, lowest_found, none_below, none_from_below}
 use Rattle.page_book.specs.Layout.{RightByte, RightRecord, records_in}
 use Rattle.page_book.specs.Refused.{layout_at, layout_fault, layout_of, wrong_at, wrong_byte}
 use Rattle.page_book.specs.Told.{WrongFirst}

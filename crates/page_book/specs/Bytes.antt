@@ -1,6 +1,6 @@
 -- A byte of a record: the test says what the layout says, and gives the byte where it is wrong.
 use Rattle.std.proofs.Common.{◌≡◌, ℕ, true, false, List, Some, None, inl, inr, arith}
-use Rattle.page_book.proofs.Lowest.{false_by, true_by, when_false, when_true}
+use Rattle.page_book.specs.LowestFacts.{false_by, true_by, when_false, when_true}
 use Rattle.page_book.specs.Layout.{Right, RightByte, byte_at, tag_at}
 use Rattle.page_book.specs.Refused.{right_byte, wrong_at}
 use Rattle.std.proofs.lemmas.Bool.{both_ways, cases_Bool, not-false, not_from_false, not_from_true, not-true}

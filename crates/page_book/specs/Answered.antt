@@ -4,9 +4,9 @@ use Rattle.books.specs.declared.faults.BookFault.TheVariants.{InPage, Size, Widt
 use Rattle.books.specs.declared.faults.BookFault.{BookFault}
 use Rattle.books.specs.declared.faults.PageFault.TheVariants.{Layout, Twice}
 use Rattle.books.specs.declared.faults.PageFault.{PageFault}
-use Rattle.page_book.proofs.Lowest.{or_none, or_some}
-use Rattle.page_book.proofs.Twice.{tags_none, tags_once, twice_first, twice_not_layout, twice_some}
-use Rattle.page_book.proofs.Wrong.{layout_not_twice, records_none, records_right, wrong_first, wrong_some}
+use Rattle.page_book.specs.LowestFacts.{or_none, or_some}
+use Rattle.page_book.specs.Twice.{tags_none, tags_once, twice_first, twice_not_layout, twice_some}
+use Rattle.page_book.specs.WrongBytes.{layout_not_twice, records_none, records_right, wrong_first, wrong_some}
 use Rattle.page_book.specs.Layout.{InSize, InWidth, WellFormed}
 use Rattle.refusals.specs.Faults.{passed, or_else}
 use Rattle.page_book.specs.Refused.{fit_fault, in_page, layout_fault, page_fault, refused_page, twice_fault}

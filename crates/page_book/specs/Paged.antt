@@ -4,9 +4,9 @@ use Rattle.books.proofs.Gathering.{Of, gathered_all, gathered_find, gathered_len
 use Rattle.books.specs.Gathered.{Distinct, gathered, lower, lowest_above, occupied, standing}
 use Rattle.books.specs.Meanings.{BlankFrom, Fits, Rec, Sound, is_part}
 use Rattle.books.specs.Questions.{find, part_of, reading_at, reading_in, reading_of}
-use Rattle.page_book.proofs.Lowest.{false_by, found_at, none_below, true_by, when_false}
-use Rattle.page_book.proofs.Standing.{Off, distinct_from, standing_first, standing_none}
-use Rattle.page_book.proofs.Valid.{valid_byte, valid_formed}
+use Rattle.page_book.specs.LowestFacts.{false_by, found_at, none_below, true_by, when_false}
+use Rattle.page_book.specs.Standing.{Off, distinct_from, standing_first, standing_none}
+use Rattle.page_book.specs.Valid.{valid_byte, valid_formed}
 use Rattle.page_book.specs.Kept.{no_room}
 use Rattle.page_book.specs.Layout.{WellFormed, code_at, part_at, records_in, tag_at}
 use Rattle.page_book.specs.Lowest.{lowest}

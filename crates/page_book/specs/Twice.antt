@@ -1,7 +1,7 @@
 -- Tags that stand twice: what the search of the earlier records finds, and the lowest such record of the page.
 use Rattle.std.proofs.Common.{◌≡◌, ℕ, ◌<◌, true, false, eqb, List, is_some, Some, None, Option, sym, refl, ◌∙◌, subst, inl, inr, arith}
 use Rattle.books.specs.declared.faults.PageFault.TheVariants.{Layout, Twice}
-use Rattle.page_book.proofs.Lowest.{false_by, found_at, lowest_found, none_below, none_from_below, true_by, when_false, when_true}
+use Rattle.page_book.specs.LowestFacts.{false_by, found_at, lowest_found, none_below, none_from_below, true_by, when_false, when_true}
 use Rattle.page_book.specs.Layout.{StandsTwice, records_in, tag_at}
 use Rattle.page_book.specs.Lowest.{lowest}
 use Rattle.page_book.specs.Refused.{same_tag, twice, twice_at, twice_fault}
