@@ -6,7 +6,7 @@ use Rattle.books.specs.Gathered.{Distinct, gathered, lower, lowest_above, occupi
 use Rattle.books.specs.Meanings.{Rec, Rising}
 use Rattle.books.specs.Questions.{find, next_tag}
 use Rattle.refusals.specs.Faults.{when}
-use Rattle.std.proofs.lemmas.Bool.{cases_eq, cond-false, cond-true, eq-eqb, eqb-true, le-ltb, lt-ltb, ltb-false, ltb-true, ne_eqb}
+use Rattle.std.proofs.lemmas.Bool.{cases_eq, cond-false, cond-true, eq-eqb, le-ltb, lt-ltb, ltb-false, ltb-true, ne_eqb}
 use Rattle.std.specs.List.{AllByRecursion as All}
 
 -- of whatever record there is, something holds

@@ -1,10 +1,10 @@
 -- Records by rising tags: found, put in, taken out, reread; lists with the same records are the same.
-use Rattle.std.proofs.Common.{◌≡◌, ℕ, suc, ◌<◌, ◌≤◌, Bool, true, false, cond, not, eqb, ltb, ◌≢◌, ◌⊎◌, List, [], ◌∷◌, map, length, Some, None, filter, Option, sym, refl, ap, ◌∙◌, subst, inl, inr, arith}
+use Rattle.std.proofs.Common.{◌≡◌, ℕ, suc, ◌<◌, ◌≤◌, Bool, true, false, cond, not, eqb, ltb, ◌≢◌, ◌⊎◌, List, [], ◌∷◌, length, Some, None, Option, sym, refl, ap, ◌∙◌, subst, inl, inr, arith}
 use Rattle.books.specs.Changes.{insert, remove, reread, reread_of}
 use Rattle.books.specs.Meanings.{Rec, Rising}
 use Rattle.books.specs.Questions.{find}
 use Rattle.std.proofs.ByRecursion.{all_kept_by, All-weaker}
-use Rattle.std.proofs.lemmas.Bool.{cases_Bool, cases_eq, cases_order, cond-false, cond-true, eq-eqb, eqb-false, eqb-true, le-ltb, lt-ltb, ltb-false, ltb-true, ne_eqb}
+use Rattle.std.proofs.lemmas.Bool.{cases_eq, cases_order, cond-false, cond-true, eq-eqb, eqb-true, ltb-false, ltb-true, ne_eqb}
 use Rattle.std.specs.List.{AllByRecursion as All}
 use lib.ListN.{length-map}
 

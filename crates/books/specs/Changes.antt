@@ -1,5 +1,5 @@
 -- Changes of a book: when each is refused, and what the book then means.
-use Rattle.std.specs.Prelude.{ℕ, ◌+◌, ◌-◌, Bool, cond, not, ◌&&◌, List, [], ◌∷◌, map, length, set, is_some, Some, None, filter, Option, ◌==◌, nat_lt, slice_set}
+use Rattle.std.specs.Prelude.{ℕ, ◌+◌, ◌-◌, Bool, cond, not, ◌&&◌, List, [], ◌∷◌, map, length, is_some, Some, None, filter, Option, ◌==◌, nat_lt, slice_set}
 use Rattle.books.specs.Meanings.{Meaning, Rec, is_part, is_test}
 use Rattle.books.specs.Questions.{find}
 use Rattle.books.specs.declared.faults.BookFault.TheVariants.{ClosedPart, ClosedTest, Full, Held, NoTag, NotHeld, Part, Readings, Test}

@@ -1,5 +1,5 @@
 -- What a book means: its width, its capacity, what is closed, and the records it holds.
-use Rattle.std.specs.Prelude.{◌≡◌, ℕ, zero, suc, ◌-◌, ◌<◌, ◌≤◌, Bool, true, false, cond, ◌&&◌, List, [], ◌∷◌, length, Some, None, Option, nat_le}
+use Rattle.std.specs.Prelude.{◌≡◌, ℕ, suc, ◌<◌, ◌≤◌, Bool, true, ◌&&◌, List, [], ◌∷◌, length, nat_le}
 use Rattle.readings.specs.Kinds.{Kind}
 use Rattle.std.specs.List.{AllByRecursion as All}
 

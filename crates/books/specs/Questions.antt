@@ -1,6 +1,6 @@
 -- What the questions answer of what a book means.
 use Rattle.std.specs.Prelude.{ℕ, zero, suc, cond, List, [], ◌∷◌, Some, None, Option, ◌==◌, nat_lt}
-use Rattle.books.specs.Meanings.{Meaning, Rec, is_test}
+use Rattle.books.specs.Meanings.{Meaning, Rec}
 use Rattle.std.specs.Option.{option_map}
 
 -- the record of a tag, where it is held

@@ -1,11 +1,10 @@
 -- The cover call: its faults as computed and as meant, and its list.
-use Rattle.std.proofs.Common.{◌≡◌, ℕ, zero, suc, ◌+◌, ◌-◌, ◌*◌, ◌/◌, ◌%◌, ◌^◌, ◌<◌, ◌≤◌, Bool, true, false, cond, ◌&&◌, ltb, leb, ◌≢◌, ◌⊎◌, List, [], ◌∷◌, ◌++◌, length, get_or, take, drop, replicate, Some, None, Option, sym, refl, ap, ◌∙◌, subst, inl, inr, zero-add, zero-mul, arith, pow_pos, shr-shr, MatchOption}
+use Rattle.std.proofs.Common.{◌≡◌, ℕ, suc, ◌+◌, ◌-◌, ◌/◌, ◌%◌, ◌^◌, ◌<◌, ◌≤◌, Bool, true, false, cond, ◌&&◌, ltb, leb, ◌≢◌, ◌⊎◌, List, [], ◌∷◌, ◌++◌, length, get_or, take, drop, replicate, Some, None, Option, sym, refl, ap, ◌∙◌, subst, inl, inr, zero-add, zero-mul, arith, pow_pos, shr-shr, MatchOption}
 use Rattle.sets.proofs.Bits.{some_bit}
 use Rattle.covers.proofs.PlanLists.{plans_list}
 use Rattle.sets.proofs.Places.{below_place}
 use Rattle.covers.specs.Answers.{cover_fault, listed, over, wide_row}
 use Rattle.covers.specs.Divisions.{Apart}
-use Rattle.covers.specs.Plans.{plans_of}
 use Rattle.sets.specs.Sets.{Has}
 use Rattle.covers.specs.Theorems.{Fair, Opened, RefusedWith, Wide}
 use Rattle.covers.specs.declared.faults.CoverFault.TheVariants.{Row, Width}

@@ -1,5 +1,5 @@
 -- A node of the division: where it has no plan, where it has one, and how it is the sum of its two halves.
-use Rattle.std.proofs.Common.{◌≡◌, ℕ, zero, suc, ◌+◌, ◌-◌, ◌*◌, ◌/◌, ◌^◌, ◌<◌, ◌≤◌, Bool, true, false, cond, ◌≢◌, List, [], ◌∷◌, ◌++◌, length, set, filter, sym, refl, ap, ◌∙◌, subst, inl, inr, ⊎_elim, add-zero, mod-eq_of_lt, mul_assoc, pow-suc, arith, length-append, pow_pos}
+use Rattle.std.proofs.Common.{◌≡◌, ℕ, zero, suc, ◌+◌, ◌-◌, ◌*◌, ◌/◌, ◌^◌, ◌<◌, ◌≤◌, Bool, true, false, cond, ◌≢◌, List, [], ◌∷◌, ◌++◌, length, filter, sym, ap, ◌∙◌, subst, inl, inr, ⊎_elim, mod-eq_of_lt, mul_assoc, pow-suc, arith, length-append, pow_pos}
 use Rattle.covers.proofs.Least.{own_down, own_least, owned_plan, plan_owned, plan_sound}
 use Rattle.covers.proofs.PlanLists.{kept_none, plans_few, plans_split}
 use Rattle.covers.proofs.Rows.{covers_complete, covers_sound, covers_up}

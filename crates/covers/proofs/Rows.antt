@@ -1,15 +1,13 @@
 -- Covering, and rows of one's own: what is computed is what is meant.
-use Rattle.std.proofs.Common.{◌≡◌, ℕ, zero, suc, ◌/◌, ◌%◌, ◌<◌, ◌≤◌, true, ◌≢◌, ◌⊎◌, List, [], ◌∷◌, sym, refl, ap, ◌∙◌, subst, inl, inr, arith}
+use Rattle.std.proofs.Common.{◌≡◌, ℕ, zero, suc, ◌/◌, true, ◌≢◌, ◌⊎◌, List, [], ◌∷◌, sym, refl, ap, ◌∙◌, subst, inl, inr}
 use Rattle.sets.proofs.Bits.{bit_cases, bit_suc, bit_zero, within_same}
-use Rattle.sets.proofs.Places.{Lone, alone_lone, and_has, and_parts, has_not, lone_alone, meets_shares, or_cases, or_has, shares_meets}
+use Rattle.sets.proofs.Places.{Lone, alone_lone, and_parts, has_not, lone_alone, meets_shares, or_cases, or_has, shares_meets}
 use Rattle.covers.specs.Plans.{Covers, covers, owned}
-use Rattle.sets.proofs.Members.{all_in, in_all}
-use Rattle.sets.specs.Sets.{Has, Shares, Within, alone, bit, meets}
+use Rattle.sets.specs.Sets.{Has, Within, alone, bit, meets}
 use Rattle.sets.specs.Lists.{In}
 use Rattle.std.proofs.lemmas.Bool.{and_from, and_parts as both_true}
-use Rattle.std.specs.List.{AllByRecursion as All}
 use lib.Arith.{bin_ind}
-use lib.Bits.{bit_and, bit_or}
+use lib.Bits.{bit_and}
 
 -- ---- covering
 

@@ -1,6 +1,5 @@
 -- What the cover call answers and leaves in the list, and the refusal table's lines for it.
 use Rattle.std.specs.Prelude.{ℕ, ◌+◌, ◌-◌, ◌^◌, cond, ◌&&◌, List, [], ◌∷◌, ◌++◌, length, replicate, Some, None, Option, nat_le, nat_lt}
-use Rattle.covers.specs.Plans.{plans_of}
 use Rattle.covers.specs.declared.faults.CoverFault.TheVariants.{Row, Width}
 use Rattle.covers.specs.declared.faults.CoverFault.{CoverFault}
 use Rattle.refusals.specs.declared.Origin.TheVariants.{Cover}

@@ -1,12 +1,11 @@
 -- What a change that is not refused tells.
-use Rattle.std.proofs.Common.{◌≡◌, ℕ, ◌<◌, ◌≤◌, Bool, true, false, not, ◌&&◌, eqb, leb, ◌≢◌, List, length, is_some, Some, None, Option, sym, refl, ap, ◌∙◌, inl, inr, arith}
+use Rattle.std.proofs.Common.{◌≡◌, ℕ, ◌<◌, ◌≤◌, true, false, not, eqb, leb, ◌≢◌, List, length, is_some, Some, None, Option, sym, refl, ap, ◌∙◌, inl, inr, arith}
 use Rattle.books.proofs.Gathering.{gathered_length, occupied_few, some_empty}
-use Rattle.books.specs.Changes.{amend, amend_fault, closed_reading, enter, enter_arguments, enter_closed, enter_held, not_held, refused, withdraw, withdraw_fault}
+use Rattle.books.specs.Changes.{amend, enter, enter_arguments, enter_closed, enter_held, not_held, refused, withdraw}
 use Rattle.books.specs.Gathered.{gathered, occupied}
 use Rattle.books.specs.Meanings.{is_part}
 use Rattle.books.specs.Questions.{find}
-use Rattle.books.specs.declared.faults.BookFault.TheVariants.{ClosedPart, ClosedTest, Full, Held, NoTag, NotHeld, Part, Readings, Test}
-use Rattle.books.specs.declared.faults.BookFault.{BookFault}
+use Rattle.books.specs.declared.faults.BookFault.TheVariants.{Full, Held, NoTag, NotHeld, Part, Readings, Test}
 use Rattle.page_book.specs.LowestFacts.{false_by, found_at, none_below, or_none, true_by}
 use Rattle.page_book.specs.Paged.{find_places, length_places, place_is, place_used}
 use Rattle.page_book.specs.Valid.{valid_formed}

@@ -1,5 +1,5 @@
 -- One reading set: the page is valid, and means what the change says.
-use Rattle.std.proofs.Common.{◌≡◌, ℕ, ◌+◌, ◌-◌, ◌*◌, ◌<◌, ◌≤◌, true, false, cond, eqb, ◌≢◌, ◌⊎◌, List, length, get_or, set, Some, None, sym, refl, ap, ◌∙◌, subst, inl, inr, arith}
+use Rattle.std.proofs.Common.{◌≡◌, ℕ, ◌+◌, ◌-◌, ◌*◌, ◌<◌, ◌≤◌, true, false, eqb, ◌≢◌, List, length, get_or, set, Some, sym, refl, ap, ◌∙◌, subst, inl, inr, arith}
 use Rattle.books.proofs.Gathering.{gathered_amend}
 use Rattle.books.specs.Changes.{after, amend, held_after, reread, reread_of}
 use Rattle.books.specs.Gathered.{gathered, standing}

@@ -1,9 +1,8 @@
 -- The questions, answered record by record.
 use Rattle.std.proofs.Common.{◌≡◌, ℕ, zero, suc, ◌+◌, ◌-◌, ◌<◌, ◌≤◌, true, ltb, ◌≢◌, List, [], ◌∷◌, length, get_or, drop, Some, None, Option, sym, refl, ap, ◌∙◌, inl, inr, arith}
-use Rattle.books.proofs.Gathering.{gathered_length, gathered_next}
 use Rattle.books.specs.Gathered.{lower, lowest_above, occupied}
 use Rattle.books.specs.Meanings.{Rec}
-use Rattle.books.specs.Questions.{next_tag, part_of, reading_at, reading_in, reading_of}
+use Rattle.books.specs.Questions.{part_of, reading_at, reading_in, reading_of}
 use Rattle.page_book.specs.LowestFacts.{when_false}
 use Rattle.page_book.specs.Paged.{code_is, find_places, length_codes, length_places, place_free, place_is, place_used}
 use Rattle.page_book.specs.Standing.{lower_assoc}

@@ -1,19 +1,17 @@
 -- A record entered in a free one: the page is valid, and means what the change says.
-use Rattle.std.proofs.Common.{◌≡◌, ℕ, ◌+◌, ◌-◌, ◌*◌, ◌/◌, ◌%◌, ◌<◌, ◌≤◌, true, cond, ◌&&◌, eqb, ltb, leb, ◌≢◌, List, length, get_or, set, Some, None, sym, refl, ap, ◌∙◌, subst, inl, inr, arith}
+use Rattle.std.proofs.Common.{◌≡◌, ℕ, ◌+◌, ◌-◌, ◌<◌, ◌≤◌, true, ◌≢◌, List, length, get_or, set, Some, None, sym, refl, ap, ◌∙◌, arith}
 use Rattle.books.proofs.Gathering.{gathered_enter}
 use Rattle.books.specs.Changes.{after, enter, held_after, insert}
 use Rattle.books.specs.Gathered.{gathered, standing}
-use Rattle.books.specs.Meanings.{Rec}
 use Rattle.page_book.proofs.Amending.{meaning_is, record_is}
 use Rattle.page_book.specs.Paged.{distinct_places, length_places, of_places, place_absent, place_free, place_is, place_used}
 use Rattle.page_book.proofs.Rewriting.{codes_from, places_set, same_count, still_valid}
 use Rattle.page_book.specs.Standing.{standing_none}
 use Rattle.page_book.specs.Valid.{valid_formed}
 use Rattle.page_book.specs.Layout.{RightRecord, byte_at, code_at, part_at, records_in, tag_at}
-use Rattle.page_book.specs.Places.{codes_at, page_meaning, place_at, place_of, places, record_at, valid}
+use Rattle.page_book.specs.Places.{codes_at, page_meaning, place_at, place_of, places, valid}
 use Rattle.page_book.specs.Rewrites.{Rewritten, entered_byte}
 use Rattle.std.proofs.lemmas.List.{get_or_default, get_or_past}
-use Rattle.std.proofs.lemmas.Bool.{and_from, cases_eq, cases_lt, cond-false, cond-true, eq-eqb, le-leb, lt-leb, lt-ltb, ne_eqb}
 use Rattle.std.proofs.lemmas.Bool.Decides.{nat_tests}
 
 -- the bytes of a record by their place

@@ -1,5 +1,5 @@
 -- The matrix of a page: a row is a set of 24 tests, and there are at most 2,016 rows.
-use Rattle.std.proofs.Common.{◌≡◌, ℕ, zero, suc, ◌+◌, ◌*◌, ◌%◌, ◌^◌, ◌<◌, ◌≤◌, true, false, List, [], ◌∷◌, ◌++◌, length, set, sym, ap, ◌∙◌, add-zero, suc-mul, pow-suc, mul-suc, add-one, arith}
+use Rattle.std.proofs.Common.{◌≡◌, ℕ, zero, suc, ◌+◌, ◌*◌, ◌%◌, ◌^◌, ◌<◌, ◌≤◌, true, false, List, [], ◌∷◌, ◌++◌, length, sym, ap, ◌∙◌, add-zero, suc-mul, pow-suc, mul-suc, add-one, arith}
 use Rattle.page_book.specs.Layout.{code_at}
 use Rattle.page_book.specs.Rows.{apart, same_or_blank, differing, matrix_to, row_at, row_of, rows_with}
 use Rattle.sets.proofs.Runs.{sets_append}

@@ -1,5 +1,5 @@
 -- A page opened, changed and given back: what the book promised holds of the caller's bytes.
-use Rattle.std.proofs.Common.{◌≡◌, ℕ, List, [], Some, None, Ok, Err, Option, Result, sym, refl, ap, ◌∙◌, subst}
+use Rattle.std.proofs.Common.{◌≡◌, ℕ, List, [], None, Ok, Err, Option, Result, sym, refl, ap, ◌∙◌, subst}
 use Rattle.books.specs.Changes.{Change, after, refused}
 use Rattle.books.specs.Meanings.{Meaning}
 use Rattle.books.specs.Promises.{Changed, Left}

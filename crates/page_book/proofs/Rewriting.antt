@@ -1,10 +1,10 @@
 -- A page with one record rewritten: still valid, and its places with one place set.
-use Rattle.std.proofs.Common.{◌≡◌, ℕ, ◌+◌, ◌-◌, ◌*◌, ◌%◌, ◌<◌, ◌≤◌, true, cond, eqb, ◌≢◌, ◌⊎◌, List, length, get_or, set, Some, None, Option, sym, refl, ap, ◌∙◌, subst, inl, inr, arith}
+use Rattle.std.proofs.Common.{◌≡◌, ℕ, ◌+◌, ◌-◌, ◌*◌, ◌%◌, ◌<◌, ◌≤◌, true, cond, eqb, ◌≢◌, List, length, get_or, set, Some, None, Option, sym, ap, ◌∙◌, subst, inl, inr, arith}
 use Rattle.books.specs.Meanings.{Rec}
 use Rattle.page_book.specs.Paged.{code_is, length_codes, length_places, place_is}
 use Rattle.page_book.specs.Valid.{by_valid, valid_byte, valid_formed}
 use Rattle.page_book.specs.Layout.{Right, RightRecord, StandsTwice, byte_at, code_at, part_at, records_in, tag_at}
-use Rattle.page_book.specs.Places.{codes_at, place_at, places, record_at, valid}
+use Rattle.page_book.specs.Places.{codes_at, place_at, places, valid}
 use Rattle.page_book.specs.Rewrites.{Rewritten}
 use Rattle.std.proofs.lemmas.List.{ext_get_or, get_or-set_other, get_or-set_same, length-set}
 use Rattle.std.proofs.lemmas.Bool.{cases_eq, cases_lt, cases_order}

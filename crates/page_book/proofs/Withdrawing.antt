@@ -1,5 +1,5 @@
 -- A record cleared: the page is valid, and means what the change says.
-use Rattle.std.proofs.Common.{◌≡◌, ℕ, ◌<◌, true, ◌≢◌, List, length, set, Some, None, sym, ap, ◌∙◌, arith}
+use Rattle.std.proofs.Common.{◌≡◌, ℕ, true, ◌≢◌, List, set, Some, sym, ap, ◌∙◌, arith}
 use Rattle.books.proofs.Gathering.{gathered_withdraw}
 use Rattle.books.specs.Changes.{after, held_after, remove, withdraw}
 use Rattle.books.specs.Gathered.{gathered, standing}
@@ -8,7 +8,7 @@ use Rattle.page_book.specs.Paged.{distinct_places, length_places, place_found, p
 use Rattle.page_book.proofs.Rewriting.{places_set, same_count, still_valid}
 use Rattle.page_book.specs.Valid.{valid_formed}
 use Rattle.page_book.specs.Layout.{RightRecord, records_in, tag_at}
-use Rattle.page_book.specs.Places.{page_meaning, place_at, place_of, places, record_at, valid}
+use Rattle.page_book.specs.Places.{page_meaning, place_of, places, record_at, valid}
 use Rattle.page_book.specs.Rewrites.{Rewritten}
 
 module _ (old new : List ℕ) (width tag k : ℕ) (ok : valid old width ≡ true) (found : place_of old tag ≡ Some k) (w : Rewritten old new k (λ _. 0)) where

@@ -1,10 +1,10 @@
 -- A page's records as places: each by its number, found by tag, and sound as a book.
-use Rattle.std.proofs.Common.{◌≡◌, ℕ, zero, suc, ◌+◌, ◌-◌, ◌*◌, ◌<◌, ◌≤◌, Bool, true, false, cond, eqb, ltb, leb, ◌≢◌, ◌⊎◌, List, [], ◌∷◌, map, length, get_or, drop, IfSome, Some, None, Option, sym, refl, ap, ◌∙◌, subst, inl, inr, arith}
+use Rattle.std.proofs.Common.{◌≡◌, ℕ, suc, ◌+◌, ◌*◌, ◌<◌, ◌≤◌, true, false, eqb, leb, ◌≢◌, List, [], ◌∷◌, length, get_or, IfSome, Some, None, Option, sym, refl, ap, ◌∙◌, subst, inl, inr, arith}
 use Rattle.books.proofs.Gathering.{Of, gathered_all, gathered_find, gathered_length, gathered_rising, occupied_few}
-use Rattle.books.specs.Gathered.{Distinct, gathered, lower, lowest_above, occupied, standing}
-use Rattle.books.specs.Meanings.{BlankFrom, Fits, Rec, Sound, is_part}
-use Rattle.books.specs.Questions.{find, part_of, reading_at, reading_in, reading_of}
-use Rattle.page_book.specs.LowestFacts.{false_by, found_at, none_below, true_by, when_false}
+use Rattle.books.specs.Gathered.{Distinct, gathered, standing}
+use Rattle.books.specs.Meanings.{BlankFrom, Fits, Rec, Sound}
+use Rattle.books.specs.Questions.{find}
+use Rattle.page_book.specs.LowestFacts.{false_by, found_at, none_below, true_by}
 use Rattle.page_book.specs.Standing.{Off, distinct_from, standing_first, standing_none}
 use Rattle.page_book.specs.Valid.{valid_byte, valid_formed}
 use Rattle.page_book.specs.Kept.{no_room}
@@ -13,13 +13,9 @@ use Rattle.page_book.specs.Lowest.{lowest}
 use Rattle.page_book.specs.Places.{codes_at, page_meaning, place_at, place_of, places, record_at, valid}
 use Rattle.page_book.specs.Refused.{same_tag}
 use Rattle.readings.specs.Codes.{codes}
-use Rattle.readings.specs.Kinds.{Kind}
-use Rattle.refusals.specs.Faults.{when}
 use Rattle.std.proofs.lemmas.List.FromFn.{get_or-map-range_with_len, length-map-range_with_len}
 use Rattle.std.proofs.ByRecursion.{All-from_get_or}
-use Rattle.std.proofs.lemmas.List.{at_drop_all, at_drop_more}
-use Rattle.std.proofs.lemmas.Bool.{and_from, cases_eq, cond-false, cond-true, eq-eqb, eqb-false, eqb-true, le-leb, le-ltb, ne_eqb}
-use Rattle.std.specs.List.{range_with_len, AllByRecursion as All}
+use Rattle.std.proofs.lemmas.Bool.{and_from, cases_eq, cond-false, cond-true, eq-eqb, eqb-false, eqb-true, le-leb, ne_eqb}
 use Rattle.std.specs.Option.{option_map}
 
 module _ (page : List ℕ) (width : ℕ) where

@@ -1,5 +1,5 @@
 -- What stands in places, place by place.
-use Rattle.std.proofs.Common.{◌≡◌, ℕ, zero, suc, ◌+◌, ◌<◌, min, eqb, ◌≢◌, List, [], ◌∷◌, length, get_or, Some, None, Option, sym, refl, ap, ◌∙◌, subst, arith}
+use Rattle.std.proofs.Common.{◌≡◌, ℕ, zero, suc, ◌<◌, min, eqb, ◌≢◌, List, [], ◌∷◌, length, get_or, Some, None, Option, refl, ap, ◌∙◌, arith}
 use Rattle.books.specs.Gathered.{Distinct, lower, standing}
 use Rattle.books.specs.Meanings.{Rec}
 use Rattle.books.proofs.Gathering.{Of}

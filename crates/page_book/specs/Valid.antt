@@ -1,5 +1,5 @@
 -- A valid page: well formed, and every number on it a byte.
-use Rattle.std.proofs.Common.{◌≡◌, ℕ, zero, suc, ◌<◌, Bool, true, false, not, ◌&&◌, ltb, List, [], ◌∷◌, length, get_or, is_some, Some, None, Option, refl, ap, arith}
+use Rattle.std.proofs.Common.{◌≡◌, ℕ, zero, suc, ◌<◌, true, false, not, ltb, List, [], ◌∷◌, length, get_or, is_some, Some, None, Option, refl, ap, arith}
 use Rattle.page_book.specs.Answered.{by_well_formed, well_formed}
 use Rattle.page_book.specs.Layout.{WellFormed}
 use Rattle.page_book.specs.Places.{are_bytes, valid}

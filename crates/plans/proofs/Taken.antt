@@ -1,5 +1,5 @@
 -- The rows that were written are what is handed on.
-use Rattle.std.proofs.Common.{◌≡◌, ℕ, ◌+◌, ◌-◌, ◌≤◌, List, ◌++◌, length, take, drop, ap, ◌∙◌, arith}
+use Rattle.std.proofs.Common.{◌≡◌, ℕ, ◌+◌, ◌-◌, ◌≤◌, List, length, take, drop, ap, ◌∙◌, arith}
 use lib.Seq.{sets, sets-eq, take-append_seam}
 
 pub taken : (memory rows : List ℕ) (count : ℕ) → count ≡ length rows → count ≤ length memory → take (count - 0) (sets memory 0 rows) ≡ rows

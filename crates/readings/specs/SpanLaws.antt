@@ -1,5 +1,5 @@
 -- Spans are a lawful kind, and are compatible exactly when they share a number.
-use Rattle.std.specs.Prelude.{◌≡◌, ℕ, ◌≤◌, max, Bool, true, false, ◌&&◌, ◌↔◌, ◌==◌, nat_le, refl}
+use Rattle.std.specs.Prelude.{◌≡◌, ◌≤◌, max, Bool, true, false, ◌&&◌, ◌↔◌, ◌==◌, nat_le, refl}
 use Rattle.readings.specs.Kinds.{Lawful}
 use Rattle.readings.specs.Spans.{Shares, everything, spans}
 use Rattle.readings.specs.declared.spans.Span.{Span}

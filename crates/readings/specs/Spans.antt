@@ -1,5 +1,5 @@
 -- Spans: all numbers from low to high, both ends included; two are compatible when they share a number; the blank is 0 to 65,535.
-use Rattle.std.specs.Prelude.{◌≡◌, ℕ, ◌<◌, ◌≤◌, true, ◌&&◌, ◌↔◌, Ok, Err, Result, ◌==◌, nat_le}
+use Rattle.std.specs.Prelude.{◌≡◌, ℕ, ◌<◌, ◌≤◌, ◌&&◌, Ok, Err, Result, ◌==◌, nat_le}
 use Rattle.readings.specs.Kinds.{Kind}
 use Rattle.readings.specs.declared.faults.SpanFault.TheVariants.{Backward}
 use Rattle.readings.specs.declared.faults.SpanFault.{SpanFault}

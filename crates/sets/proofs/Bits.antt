@@ -1,6 +1,6 @@
 -- The digits of a set: of a half, an intersection, a union; sets with the same digits are the same.
-use Rattle.std.proofs.Common.{◌≡◌, ℕ, zero, suc, ◌+◌, ◌*◌, ◌/◌, ◌%◌, ◌^◌, ◌<◌, ◌≤◌, min, max, ◌≢◌, ◌⊎◌, sym, refl, ap, ◌∙◌, inl, inr, one-add, arith, shr-shr}
-use Rattle.sets.specs.Sets.{bit, Has, Within, Shares}
+use Rattle.std.proofs.Common.{◌≡◌, ℕ, zero, suc, ◌/◌, ◌%◌, ◌^◌, ◌<◌, min, max, ◌≢◌, ◌⊎◌, sym, refl, ap, ◌∙◌, inl, inr, one-add, arith, shr-shr}
+use Rattle.sets.specs.Sets.{bit, Has, Within}
 use lib.Arith.{bin_ind}
 use lib.Bits.{bit_and, bit_or, and_shr, and_step, or_shr, or_step}
 use native.Mathlib.Nat.{zero-div}

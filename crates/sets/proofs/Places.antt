@@ -2,7 +2,7 @@
 use Rattle.std.proofs.Common.{◌≡◌, ℕ, zero, suc, ◌+◌, ◌-◌, ◌*◌, ◌/◌, ◌%◌, ◌^◌, ◌<◌, ◌≤◌, min, max, Bool, true, false, cond, not, eqb, ◌≢◌, ◌⊎◌, sym, refl, ap, ◌∙◌, subst, inl, inr, le_trans, pow-suc, arith, pow_mono}
 use Rattle.sets.proofs.Bits.{bit_of_and, bit_cases, bit_of_or, bit_suc, bit_zero, some_bit}
 use Rattle.sets.specs.Sets.{Has, Shares, Within, alone, bit, meets, without}
-use Rattle.std.proofs.lemmas.Bool.{cases_Bool, eqb-true, eqb-false, eq-eqb, ne_eqb, both_ways, not-true, cases_lt, cases_eq}
+use Rattle.std.proofs.lemmas.Bool.{cases_Bool, eqb-true, eqb-false, eq-eqb, ne_eqb, not-true, cases_lt, cases_eq}
 use lib.Arith.{bin_ind}
 use lib.Bits.{bit_and, bit_or}
 use lib.Count.{ones, ones_step}

@@ -1,7 +1,7 @@
 -- The changes: what the table lets through, and what the writes then make of the book.
 use Rattle.std.proofs.Common.{◌≡◌, ℕ, suc, ◌-◌, ◌<◌, ◌≤◌, Bool, true, false, cond, ◌&&◌, eqb, leb, ◌≢◌, List, [], ◌∷◌, length, get_or, set, is_some, Some, None, Option, sym, refl, ap, ◌∙◌, subst, arith}
 use Rattle.books.proofs.Gathering.{gathered_amend, gathered_enter, gathered_find, gathered_withdraw}
-use Rattle.books.specs.Changes.{after, amend, enter, insert, refused, remove, reread, reread_of, withdraw}
+use Rattle.books.specs.Changes.{amend, enter, insert, refused, remove, reread, reread_of, withdraw}
 use Rattle.books.specs.Gathered.{Distinct, gathered, standing}
 use Rattle.books.specs.Meanings.{Meaning, Rec, is_part, is_test}
 use Rattle.books.specs.Questions.{find}

@@ -1,20 +1,15 @@
 -- What a valid book means is sound.
-use Rattle.std.proofs.Common.{◌≡◌, ℕ, zero, suc, ◌+◌, ◌-◌, ◌*◌, ◌<◌, ◌≤◌, Bool, true, false, cond, ◌&&◌, eqb, leb, ◌≢◌, ◌⊎◌, List, [], ◌∷◌, length, get_or, take, drop, Some, None, Option, sym, refl, ap, ◌∙◌, subst, inl, inr, suc-mul, mul-le-mul, arith}
-use Rattle.books.proofs.Gathering.{Of, gathered_all, gathered_find, gathered_length, gathered_next, gathered_rising, occupied_few}
-use Rattle.books.specs.Gathered.{gathered, standing}
-use Rattle.books.specs.Meanings.{BlankFrom, Fits, Rec, Sound, is_part}
-use Rattle.books.specs.Questions.{find, next_tag, reading_at, reading_in}
+use Rattle.std.proofs.Common.{◌≡◌, ℕ, suc, ◌+◌, ◌*◌, true, false, ◌&&◌, eqb, leb, ◌≢◌, ◌⊎◌, List, [], ◌∷◌, length, take, drop, sym, ◌∙◌, subst, inl, inr, suc-mul, arith}
+use Rattle.books.proofs.Gathering.{Of, gathered_all, gathered_length, gathered_rising, occupied_few}
+use Rattle.books.specs.Meanings.{BlankFrom, Fits, Sound, is_part}
 use Rattle.readings.specs.Kinds.{Kind}
-use Rattle.slot_book.specs.Rows.{get_d_rows, length_cells, length_places, within}
-use Rattle.slot_book.specs.Standing.{lowest_places, occupied_used, place_none, place_some, slot_found, standing_slot}
+use Rattle.slot_book.specs.Rows.{length_places}
+use Rattle.slot_book.specs.Standing.{place_none, place_some}
 use Rattle.slot_book.specs.Valid.{facts}
-use Rattle.slot_book.specs.Found.{lowest_tag, slot_of, used}
-use Rattle.slot_book.specs.Slots.{cells_of, meaning, no_slot, place_of, places, right_slot, row_of, rows, valid_slots}
+use Rattle.slot_book.specs.Slots.{meaning, place_of, places, right_slot, row_of, rows, valid_slots}
 use Rattle.slot_book.specs.declared.slots.Slot.{Slot}
-use Rattle.std.proofs.ByRecursion.{All-weaker}
-use Rattle.std.proofs.lemmas.List.{get_or-drop, get_or-take, length-drop, length-take-le}
+use Rattle.std.proofs.lemmas.List.{length-drop, length-take-le}
 use Rattle.std.proofs.lemmas.Bool.{and_parts, cases_eq, cond-false, leb-true, ne_eqb}
-use Rattle.std.specs.Option.{option_map}
 use Rattle.std.specs.List.{AllByRecursion as All}
 
 clash : ◌≡◌ {A = ℕ} 0 1 → ⊥

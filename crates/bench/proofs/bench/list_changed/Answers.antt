@@ -22,5 +22,5 @@ returns g c change was promise =
     c.args.list.now c.list_again.new.list c.args.work.now c.list_again.new.work
     (roomy (length c.args.work.now) c.requires) c.args.bench.now c.args.changed c.list_again.result
     (all_plans g.B.Reading.Reading.kind m (g.met.B.Shown.sound c.args.bench.now.book))
-    (matrix_is g.B.Reading.Reading.kind g.met.Reading.Reading.lawful m.held)
+    (matrix_is g.B.Reading.Reading.kind g.met.B.Reading.Reading.lawful m.held)
     promise c.in_ok-changed.was c.list_again.ensures

@@ -18,5 +18,5 @@ returns g c =
     exit_shelved g.B.Reading.Reading.kind g.B.Shown.means g.B.Book.rewrites c.args.bench.now c.list_again.new.bench
     c.args.list.now c.list_again.new.list c.args.work.now c.list_again.new.work c.list_again.result
     (all_plans g.B.Reading.Reading.kind m (g.met.B.Shown.sound c.args.bench.now.book))
-    (matrix_is g.B.Reading.Reading.kind g.met.Reading.Reading.lawful m.held)
+    (matrix_is g.B.Reading.Reading.kind g.met.B.Reading.Reading.lawful m.held)
     c.in_ok-check_work.ensures c.list_again.ensures

@@ -9,11 +9,11 @@ returns g c =
     let calls2 = run c.args.calls2.now c.args.work2.now c.args.told2.now in
     record {
       one = c.replay-one.ensures;
-      two = c.replay_two.ensures;
-      alike = histories_agree g.B.Reading.Reading.kind g.met.Reading.Reading.lawful
+      two = c.replay-two.ensures;
+      alike = histories_agree g.B.Reading.Reading.kind g.met.B.Reading.Reading.lawful
           (g.B.Shown.means c.args.book) (g.C.Shown.means c.args.book2) calls calls2
-          (take (length calls) c.replay-one.new.told) (take (length calls2) c.replay_two.new.told)
-          (g.B.Shown.means c.replay-one.result.book) (g.C.Shown.means c.replay_two.result.book)
-          c.replay-one.result.count c.replay_two.result.count c.replay-one.result.over c.replay_two.result.over
-          c.replay-one.new.list c.replay_two.new.list c.replay-one.ensures.stands c.replay_two.ensures.stands;
+          (take (length calls) c.replay-one.new.told) (take (length calls2) c.replay-two.new.told)
+          (g.B.Shown.means c.replay-one.result.book) (g.C.Shown.means c.replay-two.result.book)
+          c.replay-one.result.count c.replay-two.result.count c.replay-one.result.over c.replay-two.result.over
+          c.replay-one.new.list c.replay-two.new.list c.replay-one.ensures.stands c.replay-two.ensures.stands;
     }

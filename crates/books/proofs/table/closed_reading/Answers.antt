@@ -1,4 +1,4 @@
-use Rattle.std.proofs.Common.{◌≡◌, ◌+◌, Bool, false, not, ◌&&◌, sym, ◌∙◌, arith}
+use Rattle.std.proofs.Common.{◌≡◌, false, not, ◌&&◌, sym, ◌∙◌, arith}
 use Rattle.books.proofs.Closed.{closed_found, closed_more, closed_none}
 use Rattle.books.proofs.table.closed_reading.Goals as goal
 use Rattle.books.proofs.table.closed_reading.Goals.{else-closed_test-via-then-closed_test+else-not-is_blank, else-closed_test-via-else-closed_test}

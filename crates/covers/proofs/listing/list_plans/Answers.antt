@@ -1,7 +1,6 @@
 use Rattle.std.proofs.Common.{◌≡◌, ℕ, ◌+◌, ◌-◌, ◌*◌, ◌%◌, ◌^◌, ◌<◌, ◌≤◌, List, length, replicate, sym, ap, ◌∙◌, zero-add, arith, pow_pos, pow_mono}
 use Rattle.covers.proofs.Calls.{listed_fits, listed_not, over_fits, over_not, root}
 use Rattle.covers.proofs.listing.list_plans.Goals as goal
-use Rattle.covers.specs.Answers.{listed, over}
 use Rattle.covers.specs.Plans.{plans_in, plans_of}
 use Rattle.std.proofs.lemmas.Nat.{one_shl}
 use lib.ListN.{length-replicate}

@@ -31,6 +31,6 @@ returns g c =
     ∙ ap core_of (matrix_from_zero kind m s) in
     record {
       answer = is;
-      alone = core_alone kind m.held (matrix_of kind m.held) (matrix_is kind g.met.Reading.Reading.lawful m.held) c.loop-tag.alone is;
+      alone = core_alone kind m.held (matrix_of kind m.held) (matrix_is kind g.met.B.Reading.Reading.lawful m.held) c.loop-tag.alone is;
       common = subst (λ (x : ℕ). Common (matrix_of kind m.held) x) (sym is) (core_common (matrix_of kind m.held));
     }

@@ -36,6 +36,6 @@ returns g c =
       count = p.0 ∙ ap length e;
       after = p.1 ∙ ap (sets c.args.rows.now 0) e;
       few = omega (arith, p.0 ∙ ap length e, held_few kind m s);
-      means = matrix_is kind g.met.Reading.Reading.lawful m.held;
+      means = matrix_is kind g.met.B.Reading.Reading.lawful m.held;
       narrow = matrix_narrow kind m s;
     }

@@ -1,4 +1,4 @@
-use Rattle.std.proofs.Common.{◌≡◌, ℕ, ◌-◌, ◌^◌, ◌<◌, ◌≤◌, List, length, take, replicate, None, Ok, Option, sym, ap, ◌∙◌, subst, arith}
+use Rattle.std.proofs.Common.{◌≡◌, ℕ, ◌-◌, ◌^◌, ◌<◌, ◌≤◌, List, length, take, replicate, None, Ok, Option, sym, ap, ◌∙◌, subst}
 use Rattle.books.specs.declared.faults.BookFault.{BookFault}
 use Rattle.covers.specs.Answers.{listed, told}
 use Rattle.covers.specs.Plans.{plans_of}

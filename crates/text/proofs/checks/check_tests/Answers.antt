@@ -1,4 +1,4 @@
-use Rattle.std.proofs.Common.{ℕ, ◌-◌, List, sym, refl, ap, ◌∙◌, arith}
+use Rattle.std.proofs.Common.{ℕ, List, sym, refl, ap, ◌∙◌, arith}
 use Rattle.text.proofs.Subsets.{tests_end, tests_in, tests_out}
 use Rattle.text.proofs.checks.check_tests.Goals as goal
 use Rattle.text.specs.Refused.{lowest_outside}

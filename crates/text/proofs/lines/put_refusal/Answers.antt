@@ -1,4 +1,4 @@
-use Rattle.std.proofs.Common.{◌+◌, cond, [], ◌++◌, codes, decimal, sym, ◌∙◌, arith}
+use Rattle.std.proofs.Common.{cond, [], ◌++◌, codes, decimal, sym, ◌∙◌, arith}
 use Rattle.text.proofs.Decimal.{length_decimal_32}
 use Rattle.text.proofs.Widths.{length_place, length_refusal}
 use Rattle.text.proofs.Wrote.{Wrote, wrote_none, wrote_more, wrote_all, wrote_place, wrote_room}

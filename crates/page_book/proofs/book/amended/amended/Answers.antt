@@ -1,4 +1,4 @@
-use Rattle.std.proofs.Common.{◌≡◌, ◌≤◌, sym, refl, ap, arith}
+use Rattle.std.proofs.Common.{◌≤◌, sym, refl, ap, arith}
 use Rattle.page_book.proofs.Allowed.{amend_allowed}
 use Rattle.page_book.proofs.Amending.{amend_means, amend_rewritten, amend_valid}
 use Rattle.page_book.specs.Paged.{place_found}

@@ -1,18 +1,17 @@
 use Rattle.books.specs.Changes.{after, enter, refused}
-use Rattle.books.specs.declared.faults.BookFault.{BookFault}
 use Rattle.page_book.proofs.Allowed.{enter_allowed, free_found, free_there}
 use Rattle.page_book.proofs.Entering.{enter_means, enter_valid}
 use Rattle.page_book.specs.Valid.{valid_empty}
 use Rattle.page_book.proofs.book.entered.entered.Goals as goal
 use Rattle.page_book.specs.Kept.{book_means}
-use Rattle.page_book.specs.Layout.{records_in, tag_at}
+use Rattle.page_book.specs.Layout.{records_in}
 use Rattle.page_book.specs.Lowest.{lowest}
 use Rattle.page_book.specs.Refused.{same_tag}
 use Rattle.page_book.specs.Rewrites.{Rewritten, entered_byte}
 use Rattle.page_book.specs.declared.book.PageBook.{PageBook}
 use Rattle.readings.specs.Codes.{codes}
 use Rattle.refusals.specs.Faults.{passed}
-use Rattle.std.proofs.Common.{◌≡◌, sym, ap, ◌∙◌, subst, arith}
+use Rattle.std.proofs.Common.{sym, ap, ◌∙◌, subst, arith}
 
 pub invariant_of-replace : goal.invariant_of-replace
 invariant_of-replace c = record { valid = valid_empty }

@@ -9,7 +9,7 @@ use Rattle.page_book.specs.Places.{place_of}
 use Rattle.page_book.specs.Rewrites.{Rewritten}
 use Rattle.page_book.specs.declared.book.PageBook.{PageBook}
 use Rattle.refusals.specs.Faults.{passed}
-use Rattle.std.proofs.Common.{◌≡◌, sym, ap, ◌∙◌, subst}
+use Rattle.std.proofs.Common.{sym, ap, ◌∙◌, subst}
 
 pub invariant_of-replace : goal.invariant_of-replace
 invariant_of-replace c = record { valid = valid_empty }
