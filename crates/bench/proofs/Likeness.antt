@@ -16,7 +16,7 @@ use Rattle.sets.specs.Lists.{In}
 use Rattle.std.proofs.lemmas.List.Sorted.{IsPermutation-sym}
 use Rattle.std.proofs.ByRecursion.{all_shuffled}
 use Rattle.std.specs.List.Sorted.{IsPermutation}
-use Rattle.std.specs.List.{AllByRecursion as All}
+use Rattle.std.specs.List.{AllByRecursion as Every}
 
 module _ {R : Type 0} (kind : Kind R) where
   -- ---- one record for another
@@ -26,7 +26,7 @@ module _ {R : Type 0} (kind : Kind R) where
       → (x : Rec R) × In xs x × (untagged x ≡ untagged y)
   like_of xs ys h y i = map_in untagged xs (untagged y) (all_in (In (map untagged xs)) (map untagged ys) (untagged y) moved (in_map untagged ys y i))
     where
-      moved : All (In (map untagged xs)) (map untagged ys)
+      moved : Every (In (map untagged xs)) (map untagged ys)
       moved = all_shuffled (In (map untagged xs)) (map untagged xs) (map untagged ys) h (in_all (In (map untagged xs)) (map untagged xs) (λ z k. k))
 
   abbrev part_of : ℕ × List R → ℕ

@@ -12,7 +12,7 @@ use Rattle.sets.proofs.Places.{without_lacks, without_within}
 use Rattle.sets.specs.Lists.{In}
 use Rattle.sets.specs.Sets.{Has, Shares, Within, without}
 use Rattle.std.proofs.ByRecursion.{All-weaker}
-use Rattle.std.specs.List.{AllByRecursion as All}
+use Rattle.std.specs.List.{AllByRecursion as Every}
 
 module _ {R : Type 0} (kind : Kind R) (pairs : Rec R → Rec R → Type 0) (rows : List ℕ) (is : IsMatrix kind pairs rows) where
   -- a cover of the matrix tells all apart
@@ -39,13 +39,13 @@ module _ {R : Type 0} (kind : Kind R) (pairs : Rec R → Rec R → Type 0) (rows
     abbrev Blocks : ℕ → Type 0
     Blocks s = (x : Rec R) × (y : Rec R) × pairs x y × ((j : ℕ) → TellsAt kind x y j → Has j s)
 
-    blocking : (s : ℕ) → All (Shares s) plans → Blocks s
+    blocking : (s : ℕ) → Every (Shares s) plans → Blocks s
     blocking s h =
         let r = (lists.dual s).0 h in
         let m = all_in (λ row. (x : Rec R) × (y : Rec R) × pairs x y × IsRow kind x y row) rows r.0 is.each r.1 in
         (m.0, m.1, m.2, λ j t. r.2 j ((m.3 j).1 t))
 
-    blocked : (s : ℕ) → Blocks s → All (Shares s) plans
+    blocked : (s : ℕ) → Blocks s → Every (Shares s) plans
     blocked s (x, y, p, f) =
         let r = is.all x y p in
         (lists.dual s).1 (r.0, r.1, λ j h. f j ((r.2 j).0 h))

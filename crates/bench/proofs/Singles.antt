@@ -22,7 +22,7 @@ use Rattle.refusals.proofs.Answered.{answered_ok}
 use Rattle.refusals.specs.Faults.{or_else, passed, when}
 use Rattle.std.proofs.lemmas.Bool.{both_ways}
 use Rattle.std.specs.Option.{option_map}
-use Rattle.std.specs.List.{AllByRecursion as All}
+use Rattle.std.specs.List.{AllByRecursion as Every}
 
 -- no fault is found where the work memory is enough and the tag is held
 pub single_none : {R : Type 0} (m : Meaning R) (tag work : ℕ) → Ok tt ≡ passed (short_of work) → None ≡ withdraw_fault m tag → single_fault m tag work ≡ None
@@ -54,8 +54,8 @@ module _ {R : Type 0} (kind : Kind R) (m : Meaning R) where
         same : plans_for kind m tag ≡ plans_of rows m.width
         same = ap (λ (o : Option (Rec R)). plans_of (rows_of kind m.held o) m.width) e
 
-        narrow : All (λ row. row < 2 ^ m.width) rows
-        narrow = subst (λ (o : Option (Rec R)). All (λ row. row < 2 ^ m.width) (rows_of kind m.held o)) e (one_narrow kind m sound tag)
+        narrow : Every (λ row. row < 2 ^ m.width) rows
+        narrow = subst (λ (o : Option (Rec R)). Every (λ row. row < 2 ^ m.width) (rows_of kind m.held o)) e (one_narrow kind m sound tag)
 
     pub singled : is_some (find tag m.held) ≡ true → Singled kind m tag answer.0 answer.1 list
     singled h = go (find tag m.held) refl

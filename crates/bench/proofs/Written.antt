@@ -2,7 +2,7 @@
 use Rattle.std.proofs.Common.{◌≡◌, ℕ, ◌^◌, ◌<◌, ◌≤◌, List, length, take, sym, ap, ◌∙◌, subst, arith}
 use Rattle.covers.specs.Plans.{plans_of}
 use Rattle.sets.proofs.Runs.{sets_taken}
-use Rattle.std.specs.List.{AllByRecursion as All}
+use Rattle.std.specs.List.{AllByRecursion as Every}
 use lib.Seq.{sets}
 
 module _ (work rows now : List ℕ) (n : ℕ) (after : now ≡ sets work 0 rows) (count : n ≡ length rows) (few : n ≤ 2016)
@@ -14,6 +14,6 @@ module _ (work rows now : List ℕ) (n : ℕ) (after : now ≡ sets work 0 rows)
   pub plans_written : (width wide : ℕ) → width ≡ wide → plans_of (take n now) width ≡ plans_of rows wide
   plans_written width wide e = ap (λ (l : List ℕ). plans_of l width) rows_written ∙ ap (plans_of rows) e
 
-  pub narrow_written : (width wide : ℕ) → width ≡ wide → All (λ row. row < 2 ^ wide) rows → All (λ row. row < 2 ^ width) (take n now)
+  pub narrow_written : (width wide : ℕ) → width ≡ wide → Every (λ row. row < 2 ^ wide) rows → Every (λ row. row < 2 ^ width) (take n now)
   narrow_written width wide e h =
-      subst (λ (w : ℕ). All (λ row. row < 2 ^ w) (take n now)) (sym e) (subst (All (λ row. row < 2 ^ wide)) (sym rows_written) h)
+      subst (λ (w : ℕ). Every (λ row. row < 2 ^ w) (take n now)) (sym e) (subst (Every (λ row. row < 2 ^ wide)) (sym rows_written) h)

@@ -11,7 +11,7 @@ use Rattle.readings.specs.Kinds.{Kind}
 use Rattle.sets.specs.Lists.{In}
 use Rattle.sets.specs.Sets.{Has, Shares, Within, without}
 use Rattle.std.specs.List.Sorted.{IsPermutation}
-use Rattle.std.specs.List.{AllByRecursion as All}
+use Rattle.std.specs.List.{AllByRecursion as Every}
 
 -- all plans of the matrix of a ledger's records, rising
 abbrev pub plans_by : {R : Type 0} → Kind R → Meaning R → List ℕ
@@ -22,11 +22,11 @@ pub record Serves {R : Type 0} (kind : Kind R) (pairs : Rec R → Rec R → Type
   -- every set that tells them all apart contains a listed plan
   pub enough : (s : ℕ) → Separates kind pairs s → (p : ℕ) × In plans p × Within p s
   -- every listed plan tells them all apart
-  pub apart : All (Separates kind pairs) plans
+  pub apart : Every (Separates kind pairs) plans
   -- and no longer does with any one test struck out
-  pub spare : All (λ p. (j : ℕ) → Has j p → Separates kind pairs (without j p) → ⊥) plans
+  pub spare : Every (λ p. (j : ℕ) → Has j p → Separates kind pairs (without j p) → ⊥) plans
   -- a set shares a test with every listed plan exactly when, for some two of them, it has every test that tells these apart
-  pub blocks : (s : ℕ) → All (Shares s) plans ↔ ((x : Rec R) × (y : Rec R) × pairs x y × ((j : ℕ) → TellsAt kind x y j → Has j s))
+  pub blocks : (s : ℕ) → Every (Shares s) plans ↔ ((x : Rec R) × (y : Rec R) × pairs x y × ((j : ℕ) → TellsAt kind x y j → Has j s))
 
 -- a list that is not over: its first places, as many as were counted, are exactly the plans, with zeros after them
 pub record Exact {R : Type 0} (kind : Kind R) (pairs : Rec R → Rec R → Type 0) (rows : List ℕ) (count : ℕ) (list : List ℕ) : Type 0 where

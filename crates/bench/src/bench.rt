@@ -9,7 +9,7 @@ ghost use Rattle.covers.specs.Answers.{listed, told};
 ghost use Rattle.covers.specs.Plans.{plans_of};
 ghost use Rattle.covers.specs.Theorems.{Fair};
 ghost use Rattle.refusals.specs.Faults.{passed};
-ghost use Rattle.std.specs.List.{AllByRecursion as All};
+ghost use Rattle.std.specs.List.{AllByRecursion as Every};
 
 use crate::faults::BenchFault;
 use books::book::Book;
@@ -213,7 +213,7 @@ pub(crate) fn cover_written(
     list: &mut [u32],
     work: &mut [u32],
 ) -> (u32, u32)
-    requires { (Fair width) × ((count ≤ length work.old) × (All (λ row. row < 2 ^ width) (take count work.old))) }
+    requires { (Fair width) × ((count ≤ length work.old) × (Every (λ row. row < 2 ^ width) (take count work.old))) }
     ensures answer { result ≡ told (length list.old) (plans_of (take count work.old) width) }
     ensures after { list.new ≡ listed (length list.old) (plans_of (take count work.old) width) }
     ensures cleared { work.new ≡ replicate (length work.old) 0 }
@@ -225,7 +225,7 @@ pub(crate) fn cover_written(
 
 // Lists the minimal covers of rows that the cover call does not refuse.
 fn cover_rows(width: u32, rows: &[u32], list: &mut [u32]) -> (u32, u32)
-    requires { (Fair width) × (All (λ row. row < 2 ^ width) rows.now) }
+    requires { (Fair width) × (Every (λ row. row < 2 ^ width) rows.now) }
     ensures answer { result ≡ told (length list.old) (plans_of rows.now width) }
     ensures after { list.new ≡ listed (length list.old) (plans_of rows.now width) }
 {

@@ -7,7 +7,7 @@ use Rattle.books.specs.Meanings.{Rec, Rising}
 use Rattle.books.specs.Questions.{find, next_tag}
 use Rattle.refusals.specs.Faults.{when}
 use Rattle.std.proofs.lemmas.Bool.{cases_eq, cond-false, cond-true, eq-eqb, le-ltb, lt-ltb, ltb-false, ltb-true, ne_eqb}
-use Rattle.std.specs.List.{AllByRecursion as All}
+use Rattle.std.specs.List.{AllByRecursion as Every}
 
 -- of whatever record there is, something holds
 abbrev pub Of : {R : Type 0} → (Rec R → Type 0) → Option (Rec R) → Type 0
@@ -54,7 +54,7 @@ module _ {R : Type 0} where
   gathered_length (None ∷ ps) = gathered_length ps
   gathered_length (Some x ∷ ps) = length_insert x (gathered ps) ∙ ap suc (gathered_length ps)
 
-  pub gathered_all : (P : Rec R → Type 0) (ps : List (Option (Rec R))) → All (Of P) ps → All P (gathered ps)
+  pub gathered_all : (P : Rec R → Type 0) (ps : List (Option (Rec R))) → Every (Of P) ps → Every P (gathered ps)
   unfolding gathered
   gathered_all P [] h = tt
   gathered_all P (None ∷ ps) (u, h) = gathered_all P ps h

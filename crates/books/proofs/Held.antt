@@ -5,7 +5,7 @@ use Rattle.books.specs.Meanings.{Rec, Rising}
 use Rattle.books.specs.Questions.{find}
 use Rattle.std.proofs.ByRecursion.{all_kept_by, All-weaker}
 use Rattle.std.proofs.lemmas.Bool.{cases_eq, cases_order, cond-false, cond-true, eq-eqb, eqb-true, ltb-false, ltb-true, ne_eqb}
-use Rattle.std.specs.List.{AllByRecursion as All}
+use Rattle.std.specs.List.{AllByRecursion as Every}
 use lib.ListN.{length-map}
 
 module _ {R : Type 0} where
@@ -18,14 +18,14 @@ module _ {R : Type 0} where
   find_on t x xs ne = cond-false (eqb x.tag t) (Some x) (find t xs) (ne_eqb x.tag t ne)
 
   -- no record of a tag at or below all tags but its own
-  pub find_none : (t : ℕ) (xs : List (Rec R)) → All (λ y. t < y.tag) xs → find t xs ≡ None
+  pub find_none : (t : ℕ) (xs : List (Rec R)) → Every (λ y. t < y.tag) xs → find t xs ≡ None
   unfolding find
   find_none t [] h = refl
   find_none t (x ∷ xs) (l, h) = cond-false (eqb x.tag t) (Some x) (find t xs) (ne_eqb x.tag t (λ e. omega arith)) ∙ find_none t xs h
 
   -- ---- lists with the same records are the same
 
-  above_more : (t u : ℕ) → t ≤ u → (xs : List (Rec R)) → All (λ y. u < y.tag) xs → All (λ y. t < y.tag) xs
+  above_more : (t u : ℕ) → t ≤ u → (xs : List (Rec R)) → Every (λ y. u < y.tag) xs → Every (λ y. t < y.tag) xs
   above_more t u l xs h = All-weaker (λ y. u < y.tag) (λ y. t < y.tag) (λ y k. omega arith) xs h
 
   same_head : (x y : Rec R) (xs ys : List (Rec R)) → Rising (x ∷ xs) → Rising (y ∷ ys)
@@ -47,7 +47,7 @@ module _ {R : Type 0} where
           let none : find y.tag (x ∷ xs) ≡ None = find_none y.tag (x ∷ xs) (l, above_more y.tag x.tag (omega arith) xs ax) in
           let p = sym at_y ∙ none in cc
 
-  same_tail : (x : Rec R) (xs ys : List (Rec R)) → All (λ z. x.tag < z.tag) xs → All (λ z. x.tag < z.tag) ys
+  same_tail : (x : Rec R) (xs ys : List (Rec R)) → Every (λ z. x.tag < z.tag) xs → Every (λ z. x.tag < z.tag) ys
       → ((t : ℕ) → find t (x ∷ xs) ≡ find t (x ∷ ys)) → (t : ℕ) → find t xs ≡ find t ys
   same_tail x xs ys ax ay h t = go (cases_eq x.tag t)
     where
@@ -94,12 +94,12 @@ module _ {R : Type 0} where
       go false (inl e) f = find_here t y (insert x ys) e ∙ sym (find_here t y ys e)
       go false (inr n) f = find_on t y (insert x ys) n ∙ f ∙ sym (find_on t y ys n)
 
-  pub all_insert : (P : Rec R → Type 0) (x : Rec R) (xs : List (Rec R)) → P x → All P xs → All P (insert x xs)
+  pub all_insert : (P : Rec R → Type 0) (x : Rec R) (xs : List (Rec R)) → P x → Every P xs → Every P (insert x xs)
   unfolding insert
   all_insert P x [] p h = (p, tt)
   all_insert P x (y ∷ ys) p (q, h) = go (ltb x.tag y.tag) (all_insert P x ys p h)
     where
-      go : (b : Bool) → All P (insert x ys) → All P (cond b (x ∷ y ∷ ys) (y ∷ insert x ys))
+      go : (b : Bool) → Every P (insert x ys) → Every P (cond b (x ∷ y ∷ ys) (y ∷ insert x ys))
       go true k = (p, (q, h))
       go false k = (q, k)
 
@@ -151,7 +151,7 @@ module _ {R : Type 0} where
       go true e f = f
       go false e f = cond-false (eqb x.tag u) (Some x) (find u (remove u xs)) e ∙ f
 
-  pub all_remove : (P : Rec R → Type 0) (u : ℕ) (xs : List (Rec R)) → All P xs → All P (remove u xs)
+  pub all_remove : (P : Rec R → Type 0) (u : ℕ) (xs : List (Rec R)) → Every P xs → Every P (remove u xs)
   unfolding remove
   all_remove P u xs h = all_kept_by (λ x. not (eqb x.tag u)) P xs h
 
@@ -194,7 +194,7 @@ module _ {R : Type 0} where
       go (inr ne) f =
           find_on t (rereads u test v x) (reread_of u test v xs) (λ e. ne (sym (tag_rereads u test v x) ∙ e)) ∙ f ∙ sym (ap (reread_found u test v) (find_on t x xs ne))
 
-  pub above_reread : (n u test : ℕ) (v : R) (xs : List (Rec R)) → All (λ z. n < z.tag) xs → All (λ z. n < z.tag) (reread_of u test v xs)
+  pub above_reread : (n u test : ℕ) (v : R) (xs : List (Rec R)) → Every (λ z. n < z.tag) xs → Every (λ z. n < z.tag) (reread_of u test v xs)
   unfolding reread_of rereads
   above_reread n u test v [] h = tt
   above_reread n u test v (x ∷ xs) (l, h) = (omega (arith, tag_rereads u test v x), above_reread n u test v xs h)
@@ -203,7 +203,7 @@ module _ {R : Type 0} where
   unfolding reread_of rereads
   rising_reread u test v [] r = tt
   rising_reread u test v (x ∷ xs) (a, r) =
-      (subst (λ (n : ℕ). All (λ z. n < z.tag) (reread_of u test v xs)) (sym (tag_rereads u test v x)) (above_reread x.tag u test v xs a), rising_reread u test v xs r)
+      (subst (λ (n : ℕ). Every (λ z. n < z.tag) (reread_of u test v xs)) (sym (tag_rereads u test v x)) (above_reread x.tag u test v xs a), rising_reread u test v xs r)
 
   pub length_reread : (u test : ℕ) (v : R) (xs : List (Rec R)) → length (reread_of u test v xs) ≡ length xs
   unfolding reread_of

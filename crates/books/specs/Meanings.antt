@@ -1,7 +1,7 @@
 -- What a book means: its width, its capacity, what is closed, and the records it holds.
 use Rattle.std.specs.Prelude.{◌≡◌, ℕ, suc, ◌<◌, ◌≤◌, Bool, true, ◌&&◌, List, [], ◌∷◌, length, nat_le}
 use Rattle.readings.specs.Kinds.{Kind}
-use Rattle.std.specs.List.{AllByRecursion as All}
+use Rattle.std.specs.List.{AllByRecursion as Every}
 
 -- a record: its tag, the part that cured the device, and one reading for each test, test 1 first
 pub record Rec (R : Type 0) : Type 0 where
@@ -28,7 +28,7 @@ is_test width test = nat_le 1 test && nat_le test width
 -- each record has a higher tag than all before it
 abbrev pub Rising : {R : Type 0} → List (Rec R) → Type 0
 Rising [] = Unit {0}
-Rising (x ∷ xs) = All (λ y. x.tag < y.tag) xs × Rising xs
+Rising (x ∷ xs) = Every (λ y. x.tag < y.tag) xs × Rising xs
 
 -- the readings from this test on are blank at every closed test
 abbrev pub BlankFrom : {R : Type 0} → Kind R → (ℕ → Bool) → ℕ → List R → Type 0
@@ -50,4 +50,4 @@ pub record Sound {R : Type 0} (kind : Kind R) (m : Meaning R) : Type 0 where
   pub tests : (test : ℕ) → m.closed_test test ≡ true → is_test m.width test ≡ true
   pub parts : (part : ℕ) → m.closed_part part ≡ true → is_part part ≡ true
   pub rising : Rising m.held
-  pub records : All (Fits kind m.width m.closed_test) m.held
+  pub records : Every (Fits kind m.width m.closed_test) m.held

@@ -13,7 +13,7 @@ use Rattle.std.proofs.lemmas.Nat.{le-div}
 use Rattle.std.proofs.ByRecursion.{All-get_or, All-weaker}
 use Rattle.std.proofs.lemmas.List.{at_drop_all, at_drop_more, drop-replicate}
 use Rattle.std.proofs.lemmas.Bool.{both_ways, and_from, and_left, and_parts, and_right, cond-false, cond-true, le-leb, leb-true, lt-leb, lt-ltb, le-ltb, ltb-true, ltb-false}
-use Rattle.std.specs.List.{AllByRecursion as All}
+use Rattle.std.specs.List.{AllByRecursion as Every}
 use lib.ListN.{length-replicate}
 use lib.Seq.{sets, sets-eq}
 
@@ -59,13 +59,13 @@ wide width row l = (width + p.0, omega arith, ap (λ (x : ℕ). x % 2) (sym (shr
     p : (j : ℕ) × Has j (row / 2 ^ width)
     p = some_bit (row / 2 ^ width) high
 
-found_none : (width k : ℕ) (rows : List ℕ) → wide_row width k rows ≡ None → All (λ row. row < 2 ^ width) rows
+found_none : (width k : ℕ) (rows : List ℕ) → wide_row width k rows ≡ None → Every (λ row. row < 2 ^ width) rows
 unfolding wide_row
 found_none width k [] e = tt
 found_none width k (row ∷ rows) e = go (ltb row (2 ^ width)) refl e (found_none width (k + 1) rows)
   where
     go : (b : Bool) → ltb row (2 ^ width) ≡ b → cond b (wide_row width (k + 1) rows) (Some (Row k)) ≡ None
-        → (wide_row width (k + 1) rows ≡ None → All (λ r. r < 2 ^ width) rows) → All (λ r. r < 2 ^ width) (row ∷ rows)
+        → (wide_row width (k + 1) rows ≡ None → Every (λ r. r < 2 ^ width) rows) → Every (λ r. r < 2 ^ width) (row ∷ rows)
     go true t f rest = (ltb-true row (2 ^ width) t, rest f)
     go false t f rest = let z : ◌≡◌ {A = ℕ} 0 1 = cc in absurd (clash z)
       where
@@ -75,7 +75,7 @@ found_none width k (row ∷ rows) e = go (ltb row (2 ^ width)) refl e (found_non
 -- the row that is found is row i of these, counted from k
 abbrev Found : ℕ → ℕ → List ℕ → CoverFault → Type 0
 Found width k rows fault =
-    (i : ℕ) × (fault ≡ Row (k + i)) × (i < length rows) × (2 ^ width ≤ get_or rows i 0) × All (λ row. row < 2 ^ width) (take i rows)
+    (i : ℕ) × (fault ≡ Row (k + i)) × (i < length rows) × (2 ^ width ≤ get_or rows i 0) × Every (λ row. row < 2 ^ width) (take i rows)
 
 found_some : (width k : ℕ) (rows : List ℕ) (fault : CoverFault) → wide_row width k rows ≡ Some fault → Found width k rows fault
 unfolding wide_row
@@ -152,6 +152,6 @@ unfolding listed
 listed_not places plans h = sym (cond-false (leb (length plans) places) (plans ++ replicate (places - length plans) 0) (replicate places 0) (lt-leb (length plans) places h))
 
 -- a fair width and rows that have no test above it are not refused
-pub not_refused : (width : ℕ) (rows : List ℕ) (fault : CoverFault) → Fair width → All (λ row. row < 2 ^ width) rows → RefusedWith width rows fault → ⊥
+pub not_refused : (width : ℕ) (rows : List ℕ) (fault : CoverFault) → Fair width → Every (λ row. row < 2 ^ width) rows → RefusedWith width rows fault → ⊥
 not_refused width rows Width fair small h = h fair
 not_refused width rows (Row k) fair small (f, l, w, before) = narrow width (get_or rows k 0) (All-get_or (λ row. row < 2 ^ width) rows k 0 l small) w

@@ -11,7 +11,7 @@ use Rattle.sets.specs.Lists.{In, Rising}
 use Rattle.std.proofs.lemmas.List.Elements.{filter-append}
 use Rattle.std.proofs.ByRecursion.{All-weaker, kept_by_passes}
 use Rattle.std.proofs.lemmas.Bool.{cases_eq}
-use Rattle.std.specs.List.{range_with_len, AllByRecursion as All}
+use Rattle.std.specs.List.{range_with_len, AllByRecursion as Every}
 
 -- ---- a run of numbers, and those of it that pass
 
@@ -29,11 +29,11 @@ pub plans_split : (rows : List ℕ) (lo m n : ℕ) → plans_in rows lo (m + n) 
 unfolding plans_in
 plans_split rows lo m n = ap (filter (is_plan rows)) (counting_append lo m n) ∙ filter-append (is_plan rows) (range_with_len lo m) (range_with_len (lo + m) n)
 
-from_low : (f : ℕ → Bool) (lo n : ℕ) → All (λ y. lo ≤ y) (filter f (range_with_len lo n))
+from_low : (f : ℕ → Bool) (lo n : ℕ) → Every (λ y. lo ≤ y) (filter f (range_with_len lo n))
 from_low f lo zero = tt
 from_low f lo (suc n) = go (f lo) (All-weaker (λ y. lo + 1 ≤ y) (λ y. lo ≤ y) (λ y h. omega arith) (filter f (range_with_len (lo + 1) n)) (from_low f (lo + 1) n))
   where
-    go : (b : Bool) → All (λ y. lo ≤ y) (filter f (range_with_len (lo + 1) n)) → All (λ y. lo ≤ y) (cond b (lo ∷ filter f (range_with_len (lo + 1) n)) (filter f (range_with_len (lo + 1) n)))
+    go : (b : Bool) → Every (λ y. lo ≤ y) (filter f (range_with_len (lo + 1) n)) → Every (λ y. lo ≤ y) (cond b (lo ∷ filter f (range_with_len (lo + 1) n)) (filter f (range_with_len (lo + 1) n)))
     go true h = (omega arith, h)
     go false h = h
 
@@ -41,7 +41,7 @@ kept_rising : (f : ℕ → Bool) (lo n : ℕ) → Rising (filter f (range_with_l
 kept_rising f lo zero = tt
 kept_rising f lo (suc n) = go (f lo) (kept_rising f (lo + 1) n)
   where
-    above : All (λ y. lo < y) (filter f (range_with_len (lo + 1) n))
+    above : Every (λ y. lo < y) (filter f (range_with_len (lo + 1) n))
     above = All-weaker (λ y. lo + 1 ≤ y) (λ y. lo < y) (λ y h. omega arith) (filter f (range_with_len (lo + 1) n)) (from_low f (lo + 1) n)
 
     go : (b : Bool) → Rising (filter f (range_with_len (lo + 1) n)) → Rising (cond b (lo ∷ filter f (range_with_len (lo + 1) n)) (filter f (range_with_len (lo + 1) n)))
@@ -87,7 +87,7 @@ plans_few rows lo n = kept_few (is_plan rows) lo n
 
 -- ---- all plans of a matrix within the width
 
-plan_below : (rows : List ℕ) (width s : ℕ) → All (λ row. row < 2 ^ width) rows → is_plan rows s ≡ true → s < 2 ^ width
+plan_below : (rows : List ℕ) (width s : ℕ) → Every (λ row. row < 2 ^ width) rows → is_plan rows s ≡ true → s < 2 ^ width
 plan_below rows width s small h = place_below width s within
   where
     within : (j : ℕ) → Has j s → j < width
@@ -95,11 +95,11 @@ plan_below rows width s small h = place_below width s within
         let r = owned_own rows s j (ap (bit j) (plan_owned rows s h) ∙ p) in
         below_place r.0 j width (all_in (λ row. row < 2 ^ width) rows r.0 small r.1) (and_parts j r.0 s r.2.0).0
 
-twin_in : (rows : List ℕ) (width s : ℕ) → All (λ row. row < 2 ^ width) rows → is_plan rows s ≡ true → In (plans_of rows width) s
+twin_in : (rows : List ℕ) (width s : ℕ) → Every (λ row. row < 2 ^ width) rows → is_plan rows s ≡ true → In (plans_of rows width) s
 unfolding plans_of plans_in
 twin_in rows width s small h = kept_in (is_plan rows) 0 (2 ^ width) s (omega arith) (omega (arith, plan_below rows width s small h)) h
 
-plans_sound : (rows : List ℕ) (width : ℕ) → All (Plan rows) (plans_of rows width)
+plans_sound : (rows : List ℕ) (width : ℕ) → Every (Plan rows) (plans_of rows width)
 unfolding plans_of plans_in
 plans_sound rows width = All-weaker (λ s. is_plan rows s ≡ true) (Plan rows) (plan_sound rows) (plans_of rows width) (kept_by_passes (is_plan rows) (range_with_len 0 (2 ^ width)))
 
@@ -107,39 +107,39 @@ plans_rising : (rows : List ℕ) (width : ℕ) → Rising (plans_of rows width)
 unfolding plans_of plans_in
 plans_rising rows width = kept_rising (is_plan rows) 0 (2 ^ width)
 
-plans_inner : (rows : List ℕ) (width : ℕ) → All (λ row. row < 2 ^ width) rows → (s : ℕ) → Covers rows s → (p : ℕ) × In (plans_of rows width) p × Within p s
+plans_inner : (rows : List ℕ) (width : ℕ) → Every (λ row. row < 2 ^ width) rows → (s : ℕ) → Covers rows s → (p : ℕ) × In (plans_of rows width) p × Within p s
 plans_inner rows width small s c = let p = inner_plan rows s c in (p.0, twin_in rows width p.0 small p.1, p.2)
 
 -- a row within s, or a test of each row that s lacks
-row_or : (rows : List ℕ) (s : ℕ) → ((row : ℕ) × In rows row × Within row s) ⊎ All (λ row. (j : ℕ) × Has j row × (bit j s ≡ 0)) rows
+row_or : (rows : List ℕ) (s : ℕ) → ((row : ℕ) × In rows row × Within row s) ⊎ Every (λ row. (j : ℕ) × Has j row × (bit j s ≡ 0)) rows
 row_or [] s = inr tt
 row_or (row ∷ rows) s = go (within_or row s) (row_or rows s)
   where
-    go : Within row s ⊎ ((j : ℕ) × Has j row × (bit j s ≡ 0)) → ((r : ℕ) × In rows r × Within r s) ⊎ All (λ r. (j : ℕ) × Has j r × (bit j s ≡ 0)) rows → ((r : ℕ) × In (row ∷ rows) r × Within r s) ⊎ All (λ r. (j : ℕ) × Has j r × (bit j s ≡ 0)) (row ∷ rows)
+    go : Within row s ⊎ ((j : ℕ) × Has j row × (bit j s ≡ 0)) → ((r : ℕ) × In rows r × Within r s) ⊎ Every (λ r. (j : ℕ) × Has j r × (bit j s ≡ 0)) rows → ((r : ℕ) × In (row ∷ rows) r × Within r s) ⊎ Every (λ r. (j : ℕ) × Has j r × (bit j s ≡ 0)) (row ∷ rows)
     go (inl w) rest = inl (row, inl refl, w)
     go (inr m) (inl (r, i, w)) = inl (r, inr i, w)
     go (inr m) (inr ms) = inr (m, ms)
 
 -- what s lacks covers, where it lacks a test of each row
-lacking_covers : (rows : List ℕ) (width s : ℕ) → All (λ row. row < 2 ^ width) rows → All (λ row. (j : ℕ) × Has j row × (bit j s ≡ 0)) rows → Covers rows (lacking width s)
+lacking_covers : (rows : List ℕ) (width s : ℕ) → Every (λ row. row < 2 ^ width) rows → Every (λ row. (j : ℕ) × Has j row × (bit j s ≡ 0)) rows → Covers rows (lacking width s)
 lacking_covers [] width s small ms = tt
 lacking_covers (row ∷ rows) width s (l, small) ((j, h, z), ms) =
     ((j, h, lacking_has j width s (below_place row j width l h) z), lacking_covers rows width s small ms)
 
-plans_dual : (rows : List ℕ) (width : ℕ) → All (λ row. row < 2 ^ width) rows → (s : ℕ) → All (Shares s) (plans_of rows width) ↔ ((row : ℕ) × In rows row × Within row s)
+plans_dual : (rows : List ℕ) (width : ℕ) → Every (λ row. row < 2 ^ width) rows → (s : ℕ) → Every (Shares s) (plans_of rows width) ↔ ((row : ℕ) × In rows row × Within row s)
 plans_dual rows width small s = (contains, shares)
   where
-    contains : All (Shares s) (plans_of rows width) → (row : ℕ) × In rows row × Within row s
+    contains : Every (Shares s) (plans_of rows width) → (row : ℕ) × In rows row × Within row s
     contains h = go (row_or rows s)
       where
-        go : ((row : ℕ) × In rows row × Within row s) ⊎ All (λ row. (j : ℕ) × Has j row × (bit j s ≡ 0)) rows → (row : ℕ) × In rows row × Within row s
+        go : ((row : ℕ) × In rows row × Within row s) ⊎ Every (λ row. (j : ℕ) × Has j row × (bit j s ≡ 0)) rows → (row : ℕ) × In rows row × Within row s
         go (inl r) = r
         go (inr ms) =
             let p = plans_inner rows width small (lacking width s) (lacking_covers rows width s small ms) in
             let m = all_in (Shares s) (plans_of rows width) p.0 h p.1 in
             absurd (has_not m.0 s m.1 (lacking_lacks m.0 width s (p.2 m.0 m.2)))
 
-    shares : ((row : ℕ) × In rows row × Within row s) → All (Shares s) (plans_of rows width)
+    shares : ((row : ℕ) × In rows row × Within row s) → Every (Shares s) (plans_of rows width)
     shares (row, i, w) = in_all (Shares s) (plans_of rows width) each
       where
         each : (p : ℕ) → In (plans_of rows width) p → Shares s p
@@ -147,7 +147,7 @@ plans_dual rows width small s = (contains, shares)
             let m = all_in (λ x. Shares x p) rows row (all_in (Plan rows) (plans_of rows width) p (plans_sound rows width) k).0 i in
             (m.0, w m.0 m.1, m.2)
 
-pub plans_list : (rows : List ℕ) (width : ℕ) → All (λ row. row < 2 ^ width) rows → Lists rows (plans_of rows width)
+pub plans_list : (rows : List ℕ) (width : ℕ) → Every (λ row. row < 2 ^ width) rows → Lists rows (plans_of rows width)
 plans_list rows width small = record {
   sound = plans_sound rows width;
   complete = λ s plan. twin_in rows width s small (plan_complete rows s plan);

@@ -1,11 +1,11 @@
 -- Plans: the minimal covers of a matrix, which the field calls reducts. A row is the set of tests that tell two records apart.
 use Rattle.std.specs.Prelude.{ℕ, ◌^◌, Bool, true, ◌&&◌, List, [], ◌∷◌, filter, ◌==◌, bit_and, bit_or}
 use Rattle.sets.specs.Sets.{Proper, Shares, alone, meets}
-use Rattle.std.specs.List.{range_with_len, AllByRecursion as All}
+use Rattle.std.specs.List.{range_with_len, AllByRecursion as Every}
 
 -- s has a test in common with every row
 abbrev pub Covers : List ℕ → ℕ → Type 0
-Covers rows s = All (λ row. Shares row s) rows
+Covers rows s = Every (λ row. Shares row s) rows
 
 -- a cover none of whose proper subsets covers
 abbrev pub Plan : List ℕ → ℕ → Type 0

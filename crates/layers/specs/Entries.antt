@@ -9,7 +9,7 @@ use Rattle.std.proofs.ByRecursion.{All-get_or}
 use Rattle.std.proofs.lemmas.List.{at_drop_all, at_drop_more}
 use Rattle.std.proofs.lemmas.Bool.{and_from, and_parts, cond-false, cond-true, eqb-true, false≢true, le-leb, leb-true}
 use Rattle.std.specs.Option.{option_map}
-use Rattle.std.specs.List.{AllByRecursion as All}
+use Rattle.std.specs.List.{AllByRecursion as Every}
 use Rattle.std.proofs.Common.{ap, sym, ◌∙◌, arith}
 
 -- ---- a loop over the entries
@@ -33,7 +33,7 @@ module _ (table : List ℕ) (part : ℕ) (xs : List ℕ) (i : ℕ) where
 
 -- ---- a table whose entries are right
 
-all_right : (table : List ℕ) (part : ℕ) (xs : List ℕ) → is_some (wrong_from table part xs) ≡ false → All (λ x. right_entry table x ≡ true) xs
+all_right : (table : List ℕ) (part : ℕ) (xs : List ℕ) → is_some (wrong_from table part xs) ≡ false → Every (λ x. right_entry table x ≡ true) xs
 unfolding wrong_from
 all_right table part [] h = tt
 all_right table part (x ∷ xs) h = let p = go (right_entry table x) refl h in (p.0, all_right table (part + 1) xs p.1)

@@ -10,13 +10,13 @@ use Rattle.sets.proofs.Members.{in_all, in_first, in_kept, in_map, in_second, ke
 use Rattle.sets.specs.Lists.{In}
 use Rattle.std.proofs.ByRecursion.{All-append, All-weaker}
 use Rattle.std.proofs.lemmas.Bool.{eqb-false, ne_eqb, not_from_false, not-true}
-use Rattle.std.specs.List.{AllByRecursion as All}
+use Rattle.std.specs.List.{AllByRecursion as Every}
 
 module _ {R : Type 0} (kind : Kind R) where
   -- ---- the rows of one record
 
   -- each row is the row with some record of another part
-  rows_each : (x : Rec R) (ys : List (Rec R)) → All (λ row. (y : Rec R) × In ys y × Differ x y × IsRow kind x y row) (rows_with kind x ys)
+  rows_each : (x : Rec R) (ys : List (Rec R)) → Every (λ row. (y : Rec R) × In ys y × Differ x y × IsRow kind x y row) (rows_with kind x ys)
   unfolding rows_with
   rows_each x ys = in_all (λ row. (y : Rec R) × In ys y × Differ x y × IsRow kind x y row) (rows_with kind x ys) each
     where
@@ -57,7 +57,7 @@ module _ {R : Type 0} (kind : Kind R) where
       → (x : Rec R) × (y : Rec R) × Different (z ∷ zs) x y × IsRow kind x y row
   wider z zs row (x, y, (i, k, d), is) = (x, y, (inr i, inr k, d), is)
 
-  matrix_each : (held : List (Rec R)) → All (λ row. (x : Rec R) × (y : Rec R) × Different held x y × IsRow kind x y row) (matrix_of kind held)
+  matrix_each : (held : List (Rec R)) → Every (λ row. (x : Rec R) × (y : Rec R) × Different held x y × IsRow kind x y row) (matrix_of kind held)
   unfolding matrix_of
   matrix_each [] = tt
   matrix_each (z ∷ zs) =

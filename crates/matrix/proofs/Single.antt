@@ -12,7 +12,7 @@ use Rattle.matrix.specs.Theorems.{IsMatrix}
 use Rattle.matrix.specs.Walks.{above}
 use Rattle.readings.specs.Kinds.{Kind}
 use Rattle.std.specs.Option.{option_map}
-use Rattle.std.specs.List.{AllByRecursion as All}
+use Rattle.std.specs.List.{AllByRecursion as Every}
 use lib.Seq.{sets}
 
 module _ {R : Type 0} (kind : Kind R) (m : Meaning R) (sound : Sound kind m) where
@@ -20,10 +20,10 @@ module _ {R : Type 0} (kind : Kind R) (m : Meaning R) (sound : Sound kind m) whe
   one_means None = tt
   one_means (Some x) = rows_with_are kind x m.held
 
-  pub one_narrow : (t : ℕ) → All (λ row. row < 2 ^ m.width) (rows_of kind m.held (find t m.held))
+  pub one_narrow : (t : ℕ) → Every (λ row. row < 2 ^ m.width) (rows_of kind m.held (find t m.held))
   one_narrow t = go (find t m.held) (all_find (λ x. length x.readings ≡ m.width) t m.held (all_full kind m sound))
     where
-      go : (o : Option (Rec R)) → Of (λ x. length x.readings ≡ m.width) o → All (λ row. row < 2 ^ m.width) (rows_of kind m.held o)
+      go : (o : Option (Rec R)) → Of (λ x. length x.readings ≡ m.width) o → Every (λ row. row < 2 ^ m.width) (rows_of kind m.held o)
       go None h = tt
       go (Some x) h = rows_within kind m.width x m.held h
 

@@ -8,7 +8,7 @@ use Rattle.std.proofs.lemmas.Nat.{mul-le}
 use Rattle.std.proofs.ByRecursion.{All-append, All-map, All-weaker}
 use Rattle.std.proofs.lemmas.List.{length-append, length-map}
 use Rattle.std.proofs.lemmas.List.Sums.{count_by-le-length, length-filter}
-use Rattle.std.specs.List.{AllByRecursion as All}
+use Rattle.std.specs.List.{AllByRecursion as Every}
 use Rattle.sets.proofs.Members.{all_in, in_all}
 use Rattle.sets.specs.Lists.{In}
 
@@ -30,26 +30,26 @@ module _ {R : Type 0} (kind : Kind R) where
       low true l = let e = pow-suc 2 (length xs) in omega arith
       low false l = let e = pow-suc 2 (length xs) in omega arith
 
-  pub rows_within : (w : ℕ) (x : Rec R) (ys : List (Rec R)) → length x.readings ≡ w → All (λ row. row < 2 ^ w) (rows_with kind x ys)
+  pub rows_within : (w : ℕ) (x : Rec R) (ys : List (Rec R)) → length x.readings ≡ w → Every (λ row. row < 2 ^ w) (rows_with kind x ys)
   unfolding rows_with
   rows_within w x ys e =
       All-map (λ row. row < 2 ^ w) (row_of kind x) (filter (differ x) ys)
       (in_all (λ y. row_of kind x y < 2 ^ w) (filter (differ x) ys)
       (λ y i. subst (λ (n : ℕ). row_of kind x y < 2 ^ n) e (apart_lt x.readings y.readings)))
 
-  matrix_within : (w : ℕ) (xs : List (Rec R)) → All (λ x. length x.readings ≡ w) xs → All (λ row. row < 2 ^ w) (matrix_of kind xs)
+  matrix_within : (w : ℕ) (xs : List (Rec R)) → Every (λ x. length x.readings ≡ w) xs → Every (λ row. row < 2 ^ w) (matrix_of kind xs)
   unfolding matrix_of
   matrix_within w [] h = tt
   matrix_within w (x ∷ xs) (e, h) = All-append (λ row. row < 2 ^ w) (rows_with kind x xs) (matrix_of kind xs) (rows_within w x xs e) (matrix_within w xs h)
 
-  pub all_full : (m : Meaning R) → Sound kind m → All (λ x. length x.readings ≡ m.width) m.held
+  pub all_full : (m : Meaning R) → Sound kind m → Every (λ x. length x.readings ≡ m.width) m.held
   all_full m s =
       All-weaker (Fits kind m.width m.closed_test) (λ x. length x.readings ≡ m.width) (λ x f. f.full) m.held s.records
 
-  pub matrix_narrow : (m : Meaning R) → Sound kind m → All (λ row. row < 2 ^ m.width) (matrix_of kind m.held)
+  pub matrix_narrow : (m : Meaning R) → Sound kind m → Every (λ row. row < 2 ^ m.width) (matrix_of kind m.held)
   matrix_narrow m s = matrix_within m.width m.held (all_full m s)
 
-  pub rows_narrow : (m : Meaning R) → Sound kind m → (x : Rec R) → In m.held x → All (λ row. row < 2 ^ m.width) (rows_with kind x m.held)
+  pub rows_narrow : (m : Meaning R) → Sound kind m → (x : Rec R) → In m.held x → Every (λ row. row < 2 ^ m.width) (rows_with kind x m.held)
   rows_narrow m s x i = rows_within m.width x m.held (all_in (λ y. length y.readings ≡ m.width) m.held x (all_full m s) i)
 
   -- ---- how many

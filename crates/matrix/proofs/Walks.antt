@@ -10,7 +10,7 @@ use Rattle.matrix.specs.Walks.{above, differing, row_in}
 use Rattle.readings.specs.Kinds.{Kind}
 use Rattle.std.proofs.ByRecursion.{All-weaker}
 use Rattle.std.proofs.lemmas.Bool.{cases_lt, cases_eq, cond-false, cond-true, le-ltb, lt-ltb}
-use Rattle.std.specs.List.{AllByRecursion as All}
+use Rattle.std.specs.List.{AllByRecursion as Every}
 
 pub no_some : {A : Type 0} (x : A) → ◌≡◌ {A = Option A} None (Some x) → ⊥
 no_some x e = let z : ◌≡◌ {A = ℕ} 0 1 = cc in clash z
@@ -27,7 +27,7 @@ module _ {R : Type 0} where
   unfolding above
   above_on a x xs l = cond-false (ltb a x.tag) (x ∷ above a xs) (above a xs) (le-ltb a x.tag l)
 
-  above_all : (a : ℕ) (xs : List (Rec R)) → All (λ x. a < x.tag) xs → above a xs ≡ xs
+  above_all : (a : ℕ) (xs : List (Rec R)) → Every (λ x. a < x.tag) xs → above a xs ≡ xs
   unfolding above
   above_all a [] h = refl
   above_all a (x ∷ xs) (l, h) = above_here a x xs l ∙ ap (λ (ys : List (Rec R)). x ∷ ys) (above_all a xs h)
@@ -52,7 +52,7 @@ module _ {R : Type 0} where
     pub further : a < t
     pub left : above a xs ≡ one ∷ above t xs
 
-  next_first : (a t : ℕ) (x : Rec R) (xs : List (Rec R)) → a < x.tag → All (λ y. x.tag < y.tag) xs → x.tag ≡ t → Next a t (x ∷ xs)
+  next_first : (a t : ℕ) (x : Rec R) (xs : List (Rec R)) → a < x.tag → Every (λ y. x.tag < y.tag) xs → x.tag ≡ t → Next a t (x ∷ xs)
   next_first a t x xs l h e = record {
     one = x;
     found = find_here t x xs e;
@@ -93,7 +93,7 @@ module _ {R : Type 0} where
       go (inr l) f = above_on a x xs l ∙ f (sym (next_on a x xs l) ∙ e)
 
   -- what holds of all records holds of the one that is found
-  pub all_find : (P : Rec R → Type 0) (t : ℕ) (xs : List (Rec R)) → All P xs → Of P (find t xs)
+  pub all_find : (P : Rec R → Type 0) (t : ℕ) (xs : List (Rec R)) → Every P xs → Of P (find t xs)
   unfolding find
   all_find P t [] h = tt
   all_find P t (x ∷ xs) (p, h) = go (cases_eq x.tag t) (all_find P t xs h)

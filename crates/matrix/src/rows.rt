@@ -7,7 +7,7 @@ ghost use Rattle.matrix.specs.Rows.{matrix_of, rows_of, rows_with};
 ghost use Rattle.matrix.specs.Theorems.{IsMatrix};
 ghost use Rattle.matrix.specs.Walks.{above as tagsAbove};
 ghost use Rattle.std.specs.Option.{option_map};
-ghost use Rattle.std.specs.List.{AllByRecursion as All};
+ghost use Rattle.std.specs.List.{AllByRecursion as Every};
 ghost use Rattle.std.proofs.lemmas.List.Edits.{sets};
 
 use crate::pairs::{differ, row_of};
@@ -21,7 +21,7 @@ pub fn matrix<B: Shown>(book: &B, rows: &mut [u32]) -> usize
     ensures after { rows.new ≡ sets rows.old 0 (matrix_of B.Reading.Reading.kind (B.Shown.means book.now).held) }
     ensures few { result ≤ 2016 }
     ensures means { IsMatrix B.Reading.Reading.kind (Different (B.Shown.means book.now).held) (matrix_of B.Reading.Reading.kind (B.Shown.means book.now).held) }
-    ensures narrow { All (λ row. row < 2 ^ (B.Shown.means book.now).width) (matrix_of B.Reading.Reading.kind (B.Shown.means book.now).held) }
+    ensures narrow { Every (λ row. row < 2 ^ (B.Shown.means book.now).width) (matrix_of B.Reading.Reading.kind (B.Shown.means book.now).held) }
 {
     write_matrix(book, rows)
 }
@@ -31,7 +31,7 @@ fn write_matrix<B: Shown>(book: &B, rows: &mut [u32]) -> usize
     ensures after { rows.new ≡ sets rows.old 0 (matrix_of B.Reading.Reading.kind (B.Shown.means book.now).held) }
     ensures few { result ≤ 2016 }
     ensures means { IsMatrix B.Reading.Reading.kind (Different (B.Shown.means book.now).held) (matrix_of B.Reading.Reading.kind (B.Shown.means book.now).held) }
-    ensures narrow { All (λ row. row < 2 ^ (B.Shown.means book.now).width) (matrix_of B.Reading.Reading.kind (B.Shown.means book.now).held) }
+    ensures narrow { Every (λ row. row < 2 ^ (B.Shown.means book.now).width) (matrix_of B.Reading.Reading.kind (B.Shown.means book.now).held) }
 {
     let mut count = 0;
     let mut last = 0;
@@ -49,7 +49,7 @@ pub fn rows_of<B: Shown>(book: &B, tag: u16, rows: &mut [u32]) -> Option<usize>
     ensures after { rows.new ≡ sets rows.old 0 (rows_of B.Reading.Reading.kind (B.Shown.means book.now).held (find tag (B.Shown.means book.now).held)) }
     ensures few { IfSome result (λ n. n ≤ 64) }
     ensures means { IfSome (find tag (B.Shown.means book.now).held) (λ x. IsMatrix B.Reading.Reading.kind (DifferentFrom x (B.Shown.means book.now).held) (rows_with B.Reading.Reading.kind x (B.Shown.means book.now).held)) }
-    ensures narrow { All (λ row. row < 2 ^ (B.Shown.means book.now).width) (rows_of B.Reading.Reading.kind (B.Shown.means book.now).held (find tag (B.Shown.means book.now).held)) }
+    ensures narrow { Every (λ row. row < 2 ^ (B.Shown.means book.now).width) (rows_of B.Reading.Reading.kind (B.Shown.means book.now).held (find tag (B.Shown.means book.now).held)) }
 {
     write_rows(book, tag, rows)
 }
@@ -59,7 +59,7 @@ fn write_rows<B: Shown>(book: &B, tag: u16, rows: &mut [u32]) -> Option<usize>
     ensures after { rows.new ≡ sets rows.old 0 (rows_of B.Reading.Reading.kind (B.Shown.means book.now).held (find tag (B.Shown.means book.now).held)) }
     ensures few { IfSome result (λ n. n ≤ 64) }
     ensures means { IfSome (find tag (B.Shown.means book.now).held) (λ x. IsMatrix B.Reading.Reading.kind (DifferentFrom x (B.Shown.means book.now).held) (rows_with B.Reading.Reading.kind x (B.Shown.means book.now).held)) }
-    ensures narrow { All (λ row. row < 2 ^ (B.Shown.means book.now).width) (rows_of B.Reading.Reading.kind (B.Shown.means book.now).held (find tag (B.Shown.means book.now).held)) }
+    ensures narrow { Every (λ row. row < 2 ^ (B.Shown.means book.now).width) (rows_of B.Reading.Reading.kind (B.Shown.means book.now).held (find tag (B.Shown.means book.now).held)) }
 {
     match book.part(tag) {
         None => None,

@@ -7,7 +7,7 @@ use Rattle.std.proofs.lemmas.Nat.{mul-le, one_shl}
 use Rattle.std.proofs.ByRecursion.{All-append}
 use Rattle.std.proofs.lemmas.List.{append-nil, length-append}
 use Rattle.std.proofs.lemmas.Bool.{cond_both, cond-false, cond-true}
-use Rattle.std.specs.List.{AllByRecursion as All}
+use Rattle.std.specs.List.{AllByRecursion as Every}
 use lib.Seq.{sets}
 
 -- where xs is written, ys after it makes zs
@@ -72,12 +72,12 @@ module _ (page : List ℕ) (k : ℕ) where
       simp length-append (omega arith)
 
   -- and each is a set of 24 tests
-  pub rows_below : (n : ℕ) → All (λ r. r < 2 ^ 24) (rows_with page k n)
+  pub rows_below : (n : ℕ) → Every (λ r. r < 2 ^ 24) (rows_with page k n)
   unfolding rows_with
   rows_below zero = tt
   rows_below (suc i) =
       All-append (λ r. r < 2 ^ 24) (rows_with page k i) (row_at page i k) (rows_below i)
-      (cond_both (differing page i k) (row_of page i k ∷ []) [] (All (λ r. r < 2 ^ 24)) (λ _. (apart_lt page i k 24, tt)) (λ _. tt))
+      (cond_both (differing page i k) (row_of page i k ∷ []) [] (Every (λ r. r < 2 ^ 24)) (λ _. (apart_lt page i k 24, tt)) (λ _. tt))
 
 module _ (page : List ℕ) where
   pub matrix_more : (k : ℕ) → matrix_to page (k + 1) ≡ matrix_to page k ++ rows_with page k k
@@ -100,7 +100,7 @@ module _ (page : List ℕ) where
   pub matrix_room : (k : ℕ) → k < 64 → length (matrix_to page k) + k ≤ 2016
   matrix_room k h = omega (arith, length_matrix k, mul-le k k 63 k (omega arith) (omega arith))
 
-  pub matrix_below : (n : ℕ) → All (λ r. r < 2 ^ 24) (matrix_to page n)
+  pub matrix_below : (n : ℕ) → Every (λ r. r < 2 ^ 24) (matrix_to page n)
   unfolding matrix_to
   matrix_below zero = tt
   matrix_below (suc k) =

@@ -7,7 +7,7 @@ use Rattle.page_book.specs.Rows.{Compatible, Differ, IsMatrix, OfTwo, TellApart,
 use Rattle.std.proofs.ByRecursion.{All-append, has_append_left, has_append_right, has_push}
 use Rattle.std.proofs.lemmas.Bool.{cases_Bool, cases_order, cond_both, cond-false, cond-true}
 use Rattle.std.proofs.lemmas.Bool.Decides.{nat_tests}
-use Rattle.std.specs.List.{ContainsAt as Has, AllByRecursion as All}
+use Rattle.std.specs.List.{ContainsAt as Has, AllByRecursion as Every}
 
 -- the tests say what the words say
 compatible_by : (a b : ℕ) → same_or_blank a b ≡ true → Compatible a b
@@ -57,15 +57,15 @@ module _ (page : List ℕ) (i k : ℕ) where
 
 module _ (page : List ℕ) where
   -- every row is that of two records that differ
-  rows_of_two : (m k n : ℕ) → k < m → n ≤ k → All (OfTwo page m) (rows_with page k n)
+  rows_of_two : (m k n : ℕ) → k < m → n ≤ k → Every (OfTwo page m) (rows_with page k n)
   unfolding rows_with
   rows_of_two m k zero l h = tt
   rows_of_two m k (suc i) l h =
       All-append (OfTwo page m) (rows_with page k i) (row_at page i k) (rows_of_two m k i l (omega arith))
-      (cond_both (differing page i k) (row_of page i k ∷ []) [] (All (OfTwo page m))
+      (cond_both (differing page i k) (row_of page i k ∷ []) [] (Every (OfTwo page m))
       (λ e. ((i, k, omega arith, l, differ_by page i k e, tell_apart page i k), tt)) (λ _. tt))
 
-  matrix_of_two : (m n : ℕ) → n ≤ m → All (OfTwo page m) (matrix_to page n)
+  matrix_of_two : (m n : ℕ) → n ≤ m → Every (OfTwo page m) (matrix_to page n)
   unfolding matrix_to
   matrix_of_two m zero h = tt
   matrix_of_two m (suc k) h =

@@ -4,7 +4,7 @@ use Rattle.std.specs.Prelude.{◌≡◌, ℕ, zero, suc, ◌+◌, ◌^◌, ◌<�
 use Rattle.page_book.specs.Layout.{code_at, part_at, records_in, tag_at}
 use Rattle.page_book.specs.Told.{Exactly}
 use Rattle.sets.specs.Sets.{Has as AtPlace}
-use Rattle.std.specs.List.{ContainsAt as Has, AllByRecursion as All}
+use Rattle.std.specs.List.{ContainsAt as Has, AllByRecursion as Every}
 
 -- two readings are compatible: they are equal, or one is blank
 abbrev pub Compatible : ℕ → ℕ → Type 0
@@ -27,7 +27,7 @@ OfTwo page n s = (i : ℕ) × (k : ℕ) × (i < k) × (k < n) × Differ page i k
 -- every row is that of two records that differ, and every two such records have their row
 abbrev pub IsMatrix : List ℕ → List ℕ → Type 0
 IsMatrix page rows =
-    All (OfTwo page (records_in page)) rows
+    Every (OfTwo page (records_in page)) rows
     × ((i k : ℕ) → i < k → k < records_in page → Differ page i k → (s : ℕ) × Has rows s × TellApart page i k s)
 
 -- the same, computed

@@ -5,7 +5,7 @@ ghost use Rattle.page_book.specs.Layout.{InSize};
 ghost use Rattle.page_book.specs.Refused.{refused_page};
 ghost use Rattle.page_book.specs.Rows.{IsMatrix, differing, matrix_of, row_of, rows_with, same_or_blank};
 ghost use Rattle.refusals.specs.Faults.{answered, leaves};
-ghost use Rattle.std.specs.List.{AllByRecursion as All};
+ghost use Rattle.std.specs.List.{AllByRecursion as Every};
 ghost use Rattle.std.proofs.lemmas.List.Edits.{sets};
 
 use crate::checks::check;
@@ -24,7 +24,7 @@ pub fn matrix(page: &[u8], width: u32, rows: &mut [u32; MOST_ROWS]) -> Result<us
     ensures answer { result ≡ answered (refused_page page.now width) (length (matrix_of page.now)) }
     ensures after { rows.new ≡ leaves (refused_page page.now width) rows.old (sets rows.old 0 (matrix_of page.now)) }
     ensures means { OnOk result (IsMatrix page.now (matrix_of page.now)) }
-    ensures below { OnOk result (All (λ s. s < 2 ^ 24) (matrix_of page.now)) }
+    ensures below { OnOk result (Every (λ s. s < 2 ^ 24) (matrix_of page.now)) }
     ensures fits { IfOk result (λ n. n ≤ 2016) }
 {
     check(page, width)?;
@@ -37,7 +37,7 @@ fn write_rows(page: &[u8], rows: &mut [u32]) -> usize
     ensures after { rows.new ≡ sets rows.old 0 (matrix_of page.now) }
     ensures means { IsMatrix page.now (matrix_of page.now) }
     ensures fits { result ≤ 2016 }
-    ensures below { All (λ s. s < 2 ^ 24) (matrix_of page.now) }
+    ensures below { Every (λ s. s < 2 ^ 24) (matrix_of page.now) }
 {
     let mut count = 0;
     for k in 0..page.len() / RECORD {

@@ -7,7 +7,7 @@ ghost use Rattle.covers.specs.Theorems.{Lists};
 ghost use Rattle.page_book.specs.Refused.{refused_page};
 ghost use Rattle.page_book.specs.Rows.{IsMatrix, matrix_of};
 ghost use Rattle.refusals.specs.Faults.{answered, leaves};
-ghost use Rattle.std.specs.List.{AllByRecursion as All};
+ghost use Rattle.std.specs.List.{AllByRecursion as Every};
 
 use books::faults::BookFault;
 use covers::listing::cover;
@@ -30,7 +30,7 @@ pub fn plans_of(page: &[u8], list: &mut [u32]) -> Result<(u32, u32), BookFault>
 
 // Lists the minimal covers of rows that have no test above 24: the cover call does not refuse them.
 fn cover_rows(rows: &[u32], list: &mut [u32]) -> (u32, u32)
-    requires { All (λ s. s < 2 ^ 24) rows.now }
+    requires { Every (λ s. s < 2 ^ 24) rows.now }
     ensures answer { result ≡ told (length list.old) (plans_of rows.now 24) }
     ensures after { list.new ≡ listed (length list.old) (plans_of rows.now 24) }
     ensures plans { Lists rows.now (plans_of rows.now 24) }

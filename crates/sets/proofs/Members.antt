@@ -2,15 +2,15 @@
 use Rattle.std.proofs.Common.{◌≡◌, ℕ, ◌<◌, Bool, true, false, ◌⊎◌, List, [], ◌∷◌, ◌++◌, map, filter, sym, refl, ap, ◌∙◌, subst, inl, inr, arith}
 use Rattle.sets.specs.Lists.{In, Rising}
 use Rattle.std.proofs.lemmas.Bool.{both_ways, cases_Bool, cond-false, cond-true}
-use Rattle.std.specs.List.{AllByRecursion as All}
+use Rattle.std.specs.List.{AllByRecursion as Every}
 
 module _ {A : Type 0} where
-  pub all_in : (P : A → Type 0) (xs : List A) (x : A) → All P xs → In xs x → P x
+  pub all_in : (P : A → Type 0) (xs : List A) (x : A) → Every P xs → In xs x → P x
   all_in P [] x h i = absurd i
   all_in P (y ∷ ys) x h (inl e) = subst P e h.0
   all_in P (y ∷ ys) x h (inr i) = all_in P ys x h.1 i
 
-  pub in_all : (P : A → Type 0) (xs : List A) → ((x : A) → In xs x → P x) → All P xs
+  pub in_all : (P : A → Type 0) (xs : List A) → ((x : A) → In xs x → P x) → Every P xs
   in_all P [] h = tt
   in_all P (y ∷ ys) h = (h y (inl refl), in_all P ys (λ x i. h x (inr i)))
 
@@ -74,7 +74,7 @@ rising_same [] (y ∷ ys) rx ry f g = absurd (g y (inl refl))
 rising_same (x ∷ xs) [] rx ry f g = absurd (f x (inl refl))
 rising_same (x ∷ xs) (y ∷ ys) (ax, rx) (ay, ry) f g = both heads (rising_same xs ys rx ry down up)
   where
-    below : (a b : ℕ) (bs : List ℕ) → All (λ c. b < c) bs → In (b ∷ bs) a → (b ≡ a) ⊎ (b < a)
+    below : (a b : ℕ) (bs : List ℕ) → Every (λ c. b < c) bs → In (b ∷ bs) a → (b ≡ a) ⊎ (b < a)
     below a b bs l (inl e) = inl e
     below a b bs l (inr i) = inr (all_in (λ c. b < c) bs a l i)
 

@@ -16,7 +16,7 @@ use Rattle.std.proofs.ByRecursion.{All-weaker}
 use Rattle.std.proofs.lemmas.List.{get_or-drop, get_or-take}
 use Rattle.std.proofs.lemmas.Bool.{cases_eq, cond-false, ne_eqb}
 use Rattle.std.specs.Option.{option_map}
-use Rattle.std.specs.List.{AllByRecursion as All}
+use Rattle.std.specs.List.{AllByRecursion as Every}
 
 module _ {R : Type 0} where
   pub standing_zero : (w : ℕ) (ss : List Slot) (cs : List R) → standing 0 (places w ss cs) ≡ None
@@ -92,7 +92,7 @@ module _ {R : Type 0} where
   reading_zero xs = refl
 
   -- outside the width no record has a reading
-  pub reading_none : (w test : ℕ) (xs : List (Rec R)) (t : ℕ) → All (λ x. length x.readings ≡ w) xs → (test < 1) ⊎ (w < test)
+  pub reading_none : (w test : ℕ) (xs : List (Rec R)) (t : ℕ) → Every (λ x. length x.readings ≡ w) xs → (test < 1) ⊎ (w < test)
       → reading_in test (find t xs) ≡ None
   unfolding find
   reading_none w test [] t h o = refl

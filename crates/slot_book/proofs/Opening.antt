@@ -13,7 +13,7 @@ use Rattle.slot_book.specs.declared.memory.SlotBook.{SlotBook}
 use Rattle.slot_book.specs.declared.slots.Slot.{Slot}
 use Rattle.std.proofs.lemmas.List.{append-nil, drop_all, length-replicate, take_all}
 use Rattle.std.proofs.lemmas.Bool.{and_parts, eqb-true, leb-true}
-use Rattle.std.specs.List.{AllByRecursion as All}
+use Rattle.std.specs.List.{AllByRecursion as Every}
 use lib.Seq.{paste}
 
 clash : ◌≡◌ {A = ℕ} 0 1 → ⊥
@@ -43,7 +43,7 @@ paste_whole {A} d s n h e =
     ∙ ap (λ (xs : List A). s ++ xs) (drop_all (0 + n) d (omega (arith, h)))
     ∙ append-nil s
 
-empty_right : (n : ℕ) → All (λ s. right_slot s ≡ true) (replicate n no_slot)
+empty_right : (n : ℕ) → Every (λ s. right_slot s ≡ true) (replicate n no_slot)
 empty_right zero = tt
 empty_right (suc n) = (refl, empty_right n)
 

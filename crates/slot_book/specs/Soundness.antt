@@ -10,7 +10,7 @@ use Rattle.slot_book.specs.Slots.{meaning, place_of, places, right_slot, row_of,
 use Rattle.slot_book.specs.declared.slots.Slot.{Slot}
 use Rattle.std.proofs.lemmas.List.{length-drop, length-take-le}
 use Rattle.std.proofs.lemmas.Bool.{and_parts, cases_eq, cond-false, leb-true, ne_eqb}
-use Rattle.std.specs.List.{AllByRecursion as All}
+use Rattle.std.specs.List.{AllByRecursion as Every}
 
 clash : ◌≡◌ {A = ℕ} 0 1 → ⊥
 clash q = omega arith
@@ -21,8 +21,8 @@ module _ {R : Type 0} where
   blank_open kind n (x ∷ xs) = ((λ e. let z : ◌≡◌ {A = ℕ} 0 1 = cc in absurd (clash z)), blank_open kind (suc n) xs)
 
   -- every record of a slot fits
-  pub places_fit : (kind : Kind R) (w : ℕ) (ss : List Slot) (cs : List R) → length cs ≡ length ss * w → All (λ s. right_slot s ≡ true) ss
-      → All (Of (Fits kind w (λ _. false))) (places w ss cs)
+  pub places_fit : (kind : Kind R) (w : ℕ) (ss : List Slot) (cs : List R) → length cs ≡ length ss * w → Every (λ s. right_slot s ≡ true) ss
+      → Every (Of (Fits kind w (λ _. false))) (places w ss cs)
   unfolding rows
   places_fit kind w [] cs e h = tt
   places_fit kind w (s ∷ ss) cs e (p, h) = (go (cases_eq s.tag 0), places_fit kind w ss (drop w cs) rest h)

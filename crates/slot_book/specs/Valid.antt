@@ -5,22 +5,22 @@ use Rattle.books.specs.Meanings.{Rec}
 use Rattle.slot_book.specs.Slots.{apart, every, fit_slots, places, right_slot, valid_slots}
 use Rattle.slot_book.specs.declared.slots.Slot.{Slot}
 use Rattle.std.proofs.lemmas.Bool.{and_from, and_parts, eq-eqb, eqb-true, le-leb, leb-true}
-use Rattle.std.specs.List.{AllByRecursion as All}
+use Rattle.std.specs.List.{AllByRecursion as Every}
 
 pub record Facts {R : Type 0} (ss : List Slot) (cs : List R) (w : ℕ) : Type 0 where
   pub wide : (1 ≤ w) × (w ≤ 24)
   pub roomy : length ss ≤ 64
   pub long : length cs ≡ length ss * w
-  pub right : All (λ s. right_slot s ≡ true) ss
+  pub right : Every (λ s. right_slot s ≡ true) ss
   pub distinct : Distinct (places w ss cs)
 
 module _ {X : Type 0} (test : X → Bool) where
-  pub all_every : (xs : List X) → every test xs ≡ true → All (λ x. test x ≡ true) xs
+  pub all_every : (xs : List X) → every test xs ≡ true → Every (λ x. test x ≡ true) xs
   unfolding every
   all_every [] e = tt
   all_every (x ∷ xs) e = let r = and_parts (test x) (every test xs) e in (r.0, all_every xs r.1)
 
-  pub every_all : (xs : List X) → All (λ x. test x ≡ true) xs → every test xs ≡ true
+  pub every_all : (xs : List X) → Every (λ x. test x ≡ true) xs → every test xs ≡ true
   unfolding every
   every_all [] h = refl
   every_all (x ∷ xs) (p, h) = and_from (test x) (every test xs) p (every_all xs h)

@@ -1,6 +1,6 @@
 -- The tests of a set, one by one: one more at the high end, the lowest, and that none is left out.
 use Rattle.std.proofs.Common.{◌≡◌, ℕ, zero, suc, ◌+◌, ◌-◌, ◌/◌, ◌%◌, ◌^◌, ◌<◌, ◌≤◌, Bool, true, false, cond, List, [], ◌∷◌, ◌++◌, sym, refl, ap, ◌∙◌, inl, inr, add-zero, arith, pow_mono}
-use Rattle.std.specs.List.{AllByRecursion as All}
+use Rattle.std.specs.List.{AllByRecursion as Every}
 use Rattle.std.proofs.lemmas.Bool.{cases_Bool, cases_eq, eqb-true, eq-eqb, cond-true, cond-false, cond_both}
 use Rattle.text.specs.Sets.{Has, is_in, tests_from}
 use Rattle.sets.specs.Lists.{In, Rising}
@@ -84,12 +84,12 @@ has_among first (suc n) s j lo hi h =
           (λ e. has_among (first + 1) n s j (omega arith) (omega arith) h)
     ]
 
-above_first : (k first n s : ℕ) → k < first → All (λ y. k < y) (tests_from first n s)
+above_first : (k first n s : ℕ) → k < first → Every (λ y. k < y) (tests_from first n s)
 unfolding tests_from
 above_first k first zero s h = tt
 above_first k first (suc n) s h =
     cond_both (is_in first s) (first ∷ tests_from (first + 1) n s) (tests_from (first + 1) n s)
-    (λ js. All (λ y. k < y) js)
+    (λ js. Every (λ y. k < y) js)
     (λ e. (h, above_first k (first + 1) n s (omega arith)))
     (λ e. above_first k (first + 1) n s (omega arith))
 

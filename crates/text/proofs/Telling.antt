@@ -6,12 +6,12 @@ use Rattle.text.specs.Refused.{lowest_outside, room_fault, test_fault}
 use Rattle.refusals.specs.Faults.{or_else, passed}
 use Rattle.text.specs.Sets.{Has, tests_from}
 use Rattle.sets.specs.Lists.{In, Rising}
-use Rattle.std.specs.List.{AllByRecursion as All}
+use Rattle.std.specs.List.{AllByRecursion as Every}
 use Rattle.text.specs.Told.{Lists, Lowest, Plain, Refuses}
 use Rattle.text.specs.declared.faults.TextFault.TheVariants.{Outside, Room}
 use Rattle.text.specs.declared.faults.TextFault.{TextFault}
 
-above_among : (j : ℕ) (ks : List ℕ) (k : ℕ) → All (λ y. j < y) ks → In ks k → j < k
+above_among : (j : ℕ) (ks : List ℕ) (k : ℕ) → Every (λ y. j < y) ks → In ks k → j < k
 above_among j [] k a m = absurd m
 above_among j (i ∷ ks) k a m = elim m [ inl e ↦ omega (arith, a.0) | inr h ↦ above_among j ks k a.1 h ]
 

@@ -9,7 +9,7 @@ use Rattle.plans.proofs.Taken.{taken}
 use Rattle.plans.proofs.planning.plans_of.Goals as goal
 use Rattle.refusals.proofs.Answered.{answered_ok}
 use Rattle.refusals.specs.Faults.{answered, leaves}
-use Rattle.std.specs.List.{AllByRecursion as All}
+use Rattle.std.specs.List.{AllByRecursion as Every}
 use lib.Seq.{sets}
 
 zeros : List ℕ
@@ -28,7 +28,7 @@ pub cover_rows-requires : goal.cover_rows-requires
 unfolding zeros
 cover_rows-requires c =
     let known = c.in_ok-count.ensures in
-    subst (All (λ s. s < 2 ^ 24)) (sym (handed c.args.page.now c.matrix.new.rows c.in_ok-count.count known.answer known.fits known.after)) known.below
+    subst (Every (λ s. s < 2 ^ 24)) (sym (handed c.args.page.now c.matrix.new.rows c.in_ok-count.count known.answer known.fits known.after)) known.below
 
 pub returns : goal.returns
 unfolding zeros
