@@ -8,7 +8,7 @@ pub record Kind (R : Type 0) : Type 0 where
   pub agrees : R → R → Bool
 
 -- a reading is compatible with itself; the answer is the same with the two exchanged; the blank is compatible with everything;
--- and only_blank answers yes exactly at the blank
+-- and is-blank answers yes exactly at the blank
 pub record Lawful (R : Type 0) (kind : Kind R) : Type 0 where
   pub itself : (x : R) → kind.agrees x x ≡ true
   pub exchanged : (x y : R) → kind.agrees x y ≡ kind.agrees y x
