@@ -5,7 +5,7 @@ ghost use Rattle.books.specs.Questions.{find};
 ghost use Rattle.matrix.specs.Apart.{Different, DifferentFrom};
 ghost use Rattle.matrix.specs.Rows.{matrix_of, rows_of, rows_with};
 ghost use Rattle.matrix.specs.Theorems.{IsMatrix};
-ghost use Rattle.matrix.specs.Walks.{above as tagsAbove};
+ghost use Rattle.matrix.specs.Walks.{above as tags_above};
 ghost use Rattle.std.specs.Option.{option_map};
 ghost use Rattle.std.specs.List.{AllByRecursion as Every};
 ghost use Rattle.std.proofs.lemmas.List.Edits.{sets};
@@ -71,8 +71,8 @@ fn write_rows<B: Shown>(book: &B, tag: u16, rows: &mut [u32]) -> Option<usize>
 // after them.
 fn rows_above<B: Shown>(book: &B, tag: u16, above: u16, rows: &mut [u32], from: usize) -> usize
     requires { from ≤ 2016 }
-    ensures count { result ≡ from + length (rows_of B.Reading.Reading.kind (tagsAbove above (B.Shown.means book.now).held) (find tag (B.Shown.means book.now).held)) }
-    ensures after { rows.new ≡ sets rows.old from (rows_of B.Reading.Reading.kind (tagsAbove above (B.Shown.means book.now).held) (find tag (B.Shown.means book.now).held)) }
+    ensures count { result ≡ from + length (rows_of B.Reading.Reading.kind (tags_above above (B.Shown.means book.now).held) (find tag (B.Shown.means book.now).held)) }
+    ensures after { rows.new ≡ sets rows.old from (rows_of B.Reading.Reading.kind (tags_above above (B.Shown.means book.now).held) (find tag (B.Shown.means book.now).held)) }
 {
     let mut count = from;
     let mut last = above;

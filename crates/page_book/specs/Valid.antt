@@ -7,11 +7,11 @@ use Rattle.page_book.specs.Lowest.{lowest}
 use Rattle.page_book.specs.Refused.{layout_fault, refused_page, twice_fault}
 use Rattle.std.proofs.lemmas.Bool.{and_from, and_parts, lt-ltb, ltb-true, not-true}
 
-pub byte_at : (xs : List ℕ) → are_bytes xs ≡ true → (i : ℕ) → get_or xs i 0 < 256
+pub byte_at_lem : (xs : List ℕ) → are_bytes xs ≡ true → (i : ℕ) → get_or xs i 0 < 256
 unfolding are_bytes
-byte_at [] h i = omega arith
-byte_at (x ∷ xs) h zero = ltb-true x 256 (and_parts (ltb x 256) (are_bytes xs) h).0
-byte_at (x ∷ xs) h (suc i) = byte_at xs (and_parts (ltb x 256) (are_bytes xs) h).1 i
+byte_at_lem [] h i = omega arith
+byte_at_lem (x ∷ xs) h zero = ltb-true x 256 (and_parts (ltb x 256) (are_bytes xs) h).0
+byte_at_lem (x ∷ xs) h (suc i) = byte_at_lem xs (and_parts (ltb x 256) (are_bytes xs) h).1 i
 
 pub bytes_from : (xs : List ℕ) → ((i : ℕ) → i < length xs → get_or xs i 0 < 256) → are_bytes xs ≡ true
 unfolding are_bytes
@@ -31,7 +31,7 @@ module _ (page : List ℕ) (width : ℕ) where
 
   pub valid_byte : valid page width ≡ true → (i : ℕ) → get_or page i 0 < 256
   unfolding valid
-  valid_byte h = byte_at page (and_parts (are_bytes page) (not (is_some (refused_page page width))) h).0
+  valid_byte h = byte_at_lem page (and_parts (are_bytes page) (not (is_some (refused_page page width))) h).0
 
   pub valid_accepted : valid page width ≡ true → refused_page page width ≡ None
   valid_accepted h = by_well_formed page width (valid_formed h)
