@@ -1,5 +1,5 @@
 -- What a list of all plans is good for, said of the records that are to be told apart.
-use Rattle.std.proofs.Common.{◌≡◌, ℕ, ◌↔◌, List, sym, subst}
+use Rattle.std.proofs.Common.{ℕ, List, sym, subst}
 use Rattle.bench.specs.Promise.{Serves}
 use Rattle.books.specs.Meanings.{Rec}
 use Rattle.covers.specs.Plans.{Covers, Plan}
@@ -9,8 +9,7 @@ use Rattle.matrix.specs.Theorems.{IsMatrix, IsRow}
 use Rattle.readings.specs.Kinds.{Kind}
 use Rattle.sets.proofs.Members.{all_in}
 use Rattle.sets.proofs.Places.{without_lacks, without_within}
-use Rattle.sets.specs.Lists.{In}
-use Rattle.sets.specs.Sets.{Has, Shares, Within, without}
+use Rattle.sets.specs.Sets.{Has, Shares, without}
 use Rattle.std.proofs.ByRecursion.{All-weaker}
 use Rattle.std.specs.List.{AllByRecursion as Every}
 

@@ -1,5 +1,5 @@
 -- What is counted and listed after an accepted call.
-use Rattle.std.proofs.Common.{◌≡◌, ℕ, ◌+◌, ◌-◌, ◌<◌, ◌≤◌, cond, leb, ◌⊎◌, List, ◌++◌, length, take, replicate, sym, refl, ap, ◌∙◌, subst, inl, inr, arith}
+use Rattle.std.proofs.Common.{◌≡◌, ℕ, ◌-◌, ◌<◌, ◌≤◌, leb, ◌⊎◌, List, ◌++◌, length, take, replicate, sym, refl, ap, ◌∙◌, subst, inl, inr, arith}
 use Rattle.bench.proofs.Serving.{serves}
 use Rattle.bench.specs.Promise.{Exact, Listing, Serves}
 use Rattle.books.specs.Meanings.{Rec}

@@ -9,9 +9,8 @@ use Rattle.books.specs.Changes.{withdraw_fault}
 use Rattle.books.specs.Meanings.{Meaning, Rec, Sound}
 use Rattle.books.specs.Questions.{find}
 use Rattle.books.specs.declared.faults.BookFault.TheVariants.{NoTag, NotHeld}
-use Rattle.books.specs.declared.faults.BookFault.{BookFault}
 use Rattle.covers.proofs.PlanLists.{plans_list}
-use Rattle.covers.specs.Answers.{listed, over, told}
+use Rattle.covers.specs.Answers.{listed, told}
 use Rattle.covers.specs.Plans.{plans_of}
 use Rattle.matrix.proofs.Matrices.{rows_with_are}
 use Rattle.matrix.proofs.Single.{one_narrow}

@@ -1,9 +1,9 @@
 -- One call of a bench, refused or accepted: its answer, what it leaves, and every history carried on by it.
-use Rattle.std.proofs.Common.{◌≡◌, ℕ, ◌≤◌, Bool, List, [], ◌∷◌, ◌++◌, length, replicate, Some, None, Ok, Err, Option, Result, sym, refl, ap, ◌∙◌, subst}
+use Rattle.std.proofs.Common.{◌≡◌, ℕ, ◌≤◌, Bool, List, length, replicate, Some, None, Ok, Err, Option, Result, sym, refl, ap, ◌∙◌, subst}
 use Rattle.bench.proofs.Ledgers.{next_accepted, stands_accepted, stands_refused}
 use Rattle.bench.proofs.Shelving.{listing}
-use Rattle.bench.specs.Ledger.{Call, change, entered, fault, in_book, next, number, shelve, short_of, work_of}
-use Rattle.bench.specs.Promise.{Shelved, Stands, plans_by}
+use Rattle.bench.specs.Ledger.{Call, change, entered, fault, in_book, next, shelve, short_of, work_of}
+use Rattle.bench.specs.Promise.{Shelved, plans_by}
 use Rattle.bench.specs.Steps.{Listed, Stepped, Turned}
 use Rattle.bench.specs.declared.bench.Bench.{Bench}
 use Rattle.bench.specs.declared.faults.BenchFault.TheVariants.{InBook, Work}
