@@ -12,7 +12,7 @@ use Rattle.matrix.specs.Rows.{matrix_of}
 use Rattle.matrix.specs.Theorems.{IsMatrix}
 use Rattle.readings.specs.Kinds.{Kind, Lawful}
 use Rattle.sets.proofs.Members.{all_in, in_all, in_map, map_in, rising_same}
-use Rattle.sets.specs.Lists.{In}
+use Rattle.sets.specs.Lists.{Among}
 use Rattle.std.proofs.lemmas.List.Sorted.{IsPermutation-sym}
 use Rattle.std.proofs.ByRecursion.{all_shuffled}
 use Rattle.std.specs.List.Sorted.{IsPermutation}
@@ -22,12 +22,12 @@ module _ {R : Type 0} (kind : Kind R) where
   -- ---- one record for another
 
   -- a record of the one has its like in the other
-  like_of : (xs ys : List (Rec R)) → IsPermutation (map untagged xs) (map untagged ys) → (y : Rec R) → In ys y
-      → (x : Rec R) × In xs x × (untagged x ≡ untagged y)
-  like_of xs ys h y i = map_in untagged xs (untagged y) (all_in (In (map untagged xs)) (map untagged ys) (untagged y) moved (in_map untagged ys y i))
+  like_of : (xs ys : List (Rec R)) → IsPermutation (map untagged xs) (map untagged ys) → (y : Rec R) → Among ys y
+      → (x : Rec R) × Among xs x × (untagged x ≡ untagged y)
+  like_of xs ys h y i = map_in untagged xs (untagged y) (all_in (Among (map untagged xs)) (map untagged ys) (untagged y) moved (in_map untagged ys y i))
     where
-      moved : Every (In (map untagged xs)) (map untagged ys)
-      moved = all_shuffled (In (map untagged xs)) (map untagged xs) (map untagged ys) h (in_all (In (map untagged xs)) (map untagged xs) (λ z k. k))
+      moved : Every (Among (map untagged xs)) (map untagged ys)
+      moved = all_shuffled (Among (map untagged xs)) (map untagged xs) (map untagged ys) h (in_all (Among (map untagged xs)) (map untagged xs) (λ z k. k))
 
   abbrev part_of : ℕ × List R → ℕ
   part_of p = p.0

@@ -9,7 +9,8 @@ use Rattle.matrix.specs.Theorems.{IsMatrix, IsRow}
 use Rattle.readings.specs.Kinds.{Kind}
 use Rattle.sets.proofs.Members.{all_in}
 use Rattle.sets.proofs.Places.{without_lacks, without_within}
-use Rattle.sets.specs.Sets.{Has, Shares, without}
+use Rattle.sets.proofs.Places.{without}
+use Rattle.sets.specs.Sets.{Has, Shares}
 use Rattle.std.proofs.ByRecursion.{All-weaker}
 use Rattle.std.specs.List.{AllByRecursion as Every}
 

@@ -8,8 +8,9 @@ use Rattle.covers.specs.Theorems.{Lists}
 use Rattle.matrix.specs.Apart.{Different, Separates, TellsAt}
 use Rattle.matrix.specs.Rows.{matrix_of}
 use Rattle.readings.specs.Kinds.{Kind}
-use Rattle.sets.specs.Lists.{In}
-use Rattle.sets.specs.Sets.{Has, Shares, Within, without}
+use Rattle.sets.specs.Lists.{Among}
+use Rattle.sets.proofs.Places.{without}
+use Rattle.sets.specs.Sets.{Has, Shares, Within}
 use Rattle.std.specs.List.Sorted.{IsPermutation}
 use Rattle.std.specs.List.{AllByRecursion as Every}
 
@@ -20,7 +21,7 @@ plans_by kind m = plans_of (matrix_of kind m.held) m.width
 -- what listed plans are good for, where some records are to be told apart
 pub record Serves {R : Type 0} (kind : Kind R) (pairs : Rec R → Rec R → Type 0) (plans : List ℕ) : Type 0 where
   -- every set that tells them all apart contains a listed plan
-  pub enough : (s : ℕ) → Separates kind pairs s → (p : ℕ) × In plans p × Within p s
+  pub enough : (s : ℕ) → Separates kind pairs s → (p : ℕ) × Among plans p × Within p s
   -- every listed plan tells them all apart
   pub apart : Every (Separates kind pairs) plans
   -- and no longer does with any one test struck out

@@ -1,6 +1,6 @@
 // The cover call: all minimal covers of a matrix into the caller's list.
 
-ghost use Rattle.std.specs.Prelude.{◌≡◌, ◌^◌, ◌≤◌, length, MatchOption, MatchResult};
+ghost use Rattle.std.specs.Prelude.{◌≡◌, ◌^◌, ◌≤◌, length, replicate, MatchOption, MatchResult};
 ghost use Rattle.covers.specs.Answers.{cover_fault, listed, told};
 ghost use Rattle.covers.specs.Plans.{plans_of};
 ghost use Rattle.covers.specs.Theorems.{Lists, Opened, RefusedWith};
@@ -8,7 +8,6 @@ ghost use Rattle.refusals.specs.Faults.{answered, leaves};
 
 use crate::dividing::divide;
 use crate::faults::CoverFault;
-use sets::clear;
 
 const WIDEST: u32 = 24;
 
@@ -56,4 +55,12 @@ fn list_plans(width: u32, rows: &[u32], list: &mut [u32]) -> (u32, u32)
         return (count, 1);
     }
     (count, 0)
+}
+
+fn clear(list: &mut [u32])
+    ensures { list.new ≡ replicate (length list.old) 0 }
+{
+    for place in list.iter_mut() {
+        *place = 0;
+    }
 }

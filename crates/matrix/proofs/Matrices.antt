@@ -7,7 +7,7 @@ use Rattle.matrix.specs.Rows.{matrix_of, row_of, rows_with}
 use Rattle.matrix.specs.Theorems.{IsMatrix, IsRow}
 use Rattle.readings.specs.Kinds.{Kind, Lawful}
 use Rattle.sets.proofs.Members.{in_all, in_first, in_kept, in_map, in_second, kept_in, map_in}
-use Rattle.sets.specs.Lists.{In}
+use Rattle.sets.specs.Lists.{Among}
 use Rattle.std.proofs.ByRecursion.{All-append, All-weaker}
 use Rattle.std.proofs.lemmas.Bool.{eqb-false, ne_eqb, not_from_false, not-true}
 use Rattle.std.specs.List.{AllByRecursion as Every}
@@ -16,11 +16,11 @@ module _ {R : Type 0} (kind : Kind R) where
   -- ---- the rows of one record
 
   -- each row is the row with some record of another part
-  rows_each : (x : Rec R) (ys : List (Rec R)) → Every (λ row. (y : Rec R) × In ys y × Differ x y × IsRow kind x y row) (rows_with kind x ys)
+  rows_each : (x : Rec R) (ys : List (Rec R)) → Every (λ row. (y : Rec R) × Among ys y × Differ x y × IsRow kind x y row) (rows_with kind x ys)
   unfolding rows_with
-  rows_each x ys = in_all (λ row. (y : Rec R) × In ys y × Differ x y × IsRow kind x y row) (rows_with kind x ys) each
+  rows_each x ys = in_all (λ row. (y : Rec R) × Among ys y × Differ x y × IsRow kind x y row) (rows_with kind x ys) each
     where
-      each : (row : ℕ) → In (map (row_of kind x) (filter (differ x) ys)) row → (y : Rec R) × In ys y × Differ x y × IsRow kind x y row
+      each : (row : ℕ) → Among (map (row_of kind x) (filter (differ x) ys)) row → (y : Rec R) × Among ys y × Differ x y × IsRow kind x y row
       each row i =
           let from = map_in (row_of kind x) (filter (differ x) ys) row i in
           let k = kept_in (differ x) ys from.0 from.1 in (
@@ -31,7 +31,7 @@ module _ {R : Type 0} (kind : Kind R) where
           )
 
   -- each record of another part has its row
-  rows_all : (x : Rec R) (ys : List (Rec R)) (y : Rec R) → In ys y → Differ x y → In (rows_with kind x ys) (row_of kind x y)
+  rows_all : (x : Rec R) (ys : List (Rec R)) (y : Rec R) → Among ys y → Differ x y → Among (rows_with kind x ys) (row_of kind x y)
   unfolding rows_with
   rows_all x ys y i d =
       in_map (row_of kind x) (filter (differ x) ys) y
@@ -39,15 +39,15 @@ module _ {R : Type 0} (kind : Kind R) where
 
   pub rows_with_are : (x : Rec R) (held : List (Rec R)) → IsMatrix kind (DifferentFrom x held) (rows_with kind x held)
   rows_with_are one held = record {
-    each = All-weaker (λ row. (y : Rec R) × In held y × Differ one y × IsRow kind one y row)
+    each = All-weaker (λ row. (y : Rec R) × Among held y × Differ one y × IsRow kind one y row)
         (λ row. (x : Rec R) × (y : Rec R) × DifferentFrom one held x y × IsRow kind x y row)
         (λ row p. (one, p.0, (refl, p.1, p.2), p.3)) (rows_with kind one held) (rows_each one held);
     all = λ x y p. its x y p.0 p.1 p.2;
   }
     where
-      its : (x y : Rec R) → x ≡ one → In held y → Differ x y → (row : ℕ) × In (rows_with kind one held) row × IsRow kind x y row
+      its : (x y : Rec R) → x ≡ one → Among held y → Differ x y → (row : ℕ) × Among (rows_with kind one held) row × IsRow kind x y row
       its x y e i =
-          subst (λ (z : Rec R). Differ z y → (row : ℕ) × In (rows_with kind one held) row × IsRow kind z y row) (sym e)
+          subst (λ (z : Rec R). Differ z y → (row : ℕ) × Among (rows_with kind one held) row × IsRow kind z y row) (sym e)
           (λ d. (row_of kind one y, rows_all one held y i d, row_is kind one y))
 
   -- ---- the matrix
@@ -62,15 +62,15 @@ module _ {R : Type 0} (kind : Kind R) where
   matrix_each [] = tt
   matrix_each (z ∷ zs) =
       All-append (λ row. (x : Rec R) × (y : Rec R) × Different (z ∷ zs) x y × IsRow kind x y row) (rows_with kind z zs) (matrix_of kind zs)
-      (All-weaker (λ row. (y : Rec R) × In zs y × Differ z y × IsRow kind z y row) _
+      (All-weaker (λ row. (y : Rec R) × Among zs y × Differ z y × IsRow kind z y row) _
       (λ row p. (z, p.0, (inl refl, inr p.1, p.2), p.3)) (rows_with kind z zs) (rows_each z zs))
       (All-weaker (λ row. (x : Rec R) × (y : Rec R) × Different zs x y × IsRow kind x y row) _ (wider z zs) (matrix_of kind zs) (matrix_each zs))
 
   -- the row of two records stands in the matrix, whichever of them is held first
   abbrev Rowed : List (Rec R) → Rec R → Rec R → Type 0
-  Rowed held x y = (row : ℕ) × In (matrix_of kind held) row × IsRow kind x y row
+  Rowed held x y = (row : ℕ) × Among (matrix_of kind held) row × IsRow kind x y row
 
-  rowed_first : (z : Rec R) (zs : List (Rec R)) (y : Rec R) → In zs y → Differ z y → Rowed (z ∷ zs) z y
+  rowed_first : (z : Rec R) (zs : List (Rec R)) (y : Rec R) → Among zs y → Differ z y → Rowed (z ∷ zs) z y
   unfolding matrix_of
   rowed_first z zs y i d =
       (row_of kind z y, in_first (rows_with kind z zs) (matrix_of kind zs) (row_of kind z y) (rows_all z zs y i d), row_is kind z y)
@@ -82,7 +82,7 @@ module _ {R : Type 0} (kind : Kind R) where
   rowed_exchanged : Lawful R kind → (held : List (Rec R)) (x y : Rec R) → Rowed held x y → Rowed held y x
   rowed_exchanged lawful held x y (row, i, is) = (row, i, row_exchanged kind lawful x y row is)
 
-  matrix_all : Lawful R kind → (held : List (Rec R)) (x y : Rec R) → In held x → In held y → Differ x y → Rowed held x y
+  matrix_all : Lawful R kind → (held : List (Rec R)) (x y : Rec R) → Among held x → Among held y → Differ x y → Rowed held x y
   matrix_all lawful [] x y i k d = absurd i
   matrix_all lawful (z ∷ zs) x y (inl e) (inl f) d = absurd (d (ap (λ (r : Rec R). r.part) (sym e ∙ f)))
   matrix_all lawful (z ∷ zs) x y (inl e) (inr k) d =

@@ -10,7 +10,7 @@ use Rattle.std.proofs.lemmas.List.{length-append, length-map}
 use Rattle.std.proofs.lemmas.List.Sums.{count_by-le-length, length-filter}
 use Rattle.std.specs.List.{AllByRecursion as Every}
 use Rattle.sets.proofs.Members.{all_in, in_all}
-use Rattle.sets.specs.Lists.{In}
+use Rattle.sets.specs.Lists.{Among}
 
 module _ {R : Type 0} (kind : Kind R) where
   -- ---- how wide
@@ -49,7 +49,7 @@ module _ {R : Type 0} (kind : Kind R) where
   pub matrix_narrow : (m : Meaning R) → Sound kind m → Every (λ row. row < 2 ^ m.width) (matrix_of kind m.held)
   matrix_narrow m s = matrix_within m.width m.held (all_full m s)
 
-  pub rows_narrow : (m : Meaning R) → Sound kind m → (x : Rec R) → In m.held x → Every (λ row. row < 2 ^ m.width) (rows_with kind x m.held)
+  pub rows_narrow : (m : Meaning R) → Sound kind m → (x : Rec R) → Among m.held x → Every (λ row. row < 2 ^ m.width) (rows_with kind x m.held)
   rows_narrow m s x i = rows_within m.width x m.held (all_in (λ y. length y.readings ≡ m.width) m.held x (all_full m s) i)
 
   -- ---- how many

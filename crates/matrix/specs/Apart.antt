@@ -3,7 +3,7 @@ use Rattle.std.specs.Prelude.{◌≡◌, ℕ, suc, Bool, false, not, ◌≢◌, 
 use Rattle.books.specs.Meanings.{Rec}
 use Rattle.books.specs.Questions.{reading_at}
 use Rattle.readings.specs.Kinds.{Kind}
-use Rattle.sets.specs.Lists.{In}
+use Rattle.sets.specs.Lists.{Among}
 use Rattle.sets.specs.Sets.{Has}
 
 -- two records are of different parts: nothing else compares parts
@@ -30,11 +30,11 @@ Tells kind s x y = (j : ℕ) × Has j s × TellsAt kind x y j
 
 -- which records are to be told apart: of the held ones, all of different parts
 abbrev pub Different : {R : Type 0} → List (Rec R) → Rec R → Rec R → Type 0
-Different held x y = In held x × In held y × Differ x y
+Different held x y = Among held x × Among held y × Differ x y
 
 -- or one record from the held ones of other parts
 abbrev pub DifferentFrom : {R : Type 0} → Rec R → List (Rec R) → Rec R → Rec R → Type 0
-DifferentFrom one held x y = (x ≡ one) × In held y × Differ x y
+DifferentFrom one held x y = (x ≡ one) × Among held y × Differ x y
 
 -- s tells apart all records that are to be told apart
 abbrev pub Separates : {R : Type 0} → Kind R → (Rec R → Rec R → Type 0) → ℕ → Type 0

@@ -3,7 +3,7 @@ use Rattle.std.specs.Prelude.{◌≡◌, ℕ, ◌↔◌, List}
 use Rattle.books.specs.Meanings.{Rec}
 use Rattle.matrix.specs.Apart.{Different, TellsAt}
 use Rattle.readings.specs.Kinds.{Kind}
-use Rattle.sets.specs.Lists.{In}
+use Rattle.sets.specs.Lists.{Among}
 use Rattle.sets.specs.Sets.{Has}
 use Rattle.std.specs.List.{AllByRecursion as Every}
 
@@ -14,7 +14,7 @@ IsRow kind x y row = (j : ℕ) → Has j row ↔ TellsAt kind x y j
 -- every row is that of two records that are to be told apart, and every two such records have their row
 pub record IsMatrix {R : Type 0} (kind : Kind R) (pairs : Rec R → Rec R → Type 0) (rows : List ℕ) : Type 0 where
   pub each : Every (λ row. (x : Rec R) × (y : Rec R) × pairs x y × IsRow kind x y row) rows
-  pub all : (x y : Rec R) → pairs x y → (row : ℕ) × In rows row × IsRow kind x y row
+  pub all : (x y : Rec R) → pairs x y → (row : ℕ) × Among rows row × IsRow kind x y row
 
 -- the test at place j alone tells some two held records of different parts apart
 abbrev pub Alone : {R : Type 0} → Kind R → List (Rec R) → ℕ → Type 0

@@ -1,7 +1,7 @@
 -- Sets by their tests: intersections, unions, single tests, a test struck out, complements, bounds.
 use Rattle.std.proofs.Common.{◌≡◌, ℕ, zero, suc, ◌+◌, ◌-◌, ◌*◌, ◌/◌, ◌%◌, ◌^◌, ◌<◌, ◌≤◌, min, max, Bool, true, false, cond, not, eqb, ◌≢◌, ◌⊎◌, sym, refl, ap, ◌∙◌, subst, inl, inr, le_trans, pow-suc, arith, pow_mono}
 use Rattle.sets.proofs.Bits.{bit_of_and, bit_cases, bit_of_or, bit_suc, bit_zero, some_bit}
-use Rattle.sets.specs.Sets.{Has, Shares, Within, alone, bit, meets, without}
+use Rattle.sets.specs.Sets.{Has, Shares, Within, alone, bit, meets}
 use Rattle.std.proofs.lemmas.Bool.{cases_Bool, eqb-true, eqb-false, eq-eqb, ne_eqb, not-true, cases_lt, cases_eq}
 use lib.Arith.{bin_ind}
 use lib.Bits.{bit_and, bit_or}
@@ -117,6 +117,10 @@ pub lone_alone : (j x : ℕ) → Lone j x → alone x ≡ x
 lone_alone j x h = ap (λ (b : Bool). cond b x 0) (eq-eqb (ones x) 1 (lone_ones x j h))
 
 -- ---- a test struck out
+
+unfoldable pub without : ℕ → ℕ → ℕ
+without zero s = s / 2 * 2
+without (suc j) s = without j (s / 2) * 2 + s % 2
 
 without_same : (j s : ℕ) → bit j (without j s) ≡ 0
 unfolding without

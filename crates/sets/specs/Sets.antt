@@ -1,5 +1,5 @@
 -- Sets of tests. A set is a number: the test at place j, counted from 0, counts 2 ^ j. The user's test 1 is at place 0.
-use Rattle.std.specs.Prelude.{◌≡◌, ℕ, zero, suc, ◌+◌, ◌*◌, ◌/◌, ◌%◌, ◌^◌, Bool, cond, not, ◌≢◌, ◌==◌, bit_and, count_ones}
+use Rattle.std.specs.Prelude.{◌≡◌, ℕ, ◌/◌, ◌%◌, ◌^◌, Bool, cond, not, ◌≢◌, ◌==◌, bit_and, count_ones}
 
 -- the digit of s at place j
 abbrev pub bit : ℕ → ℕ → ℕ
@@ -28,8 +28,3 @@ meets s t = not (bit_and s t == 0)
 -- x where it is a single test, else the empty set
 abbrev pub alone : ℕ → ℕ
 alone x = cond (count_ones x == 1) x 0
-
--- s with the test at place j struck out
-unfoldable pub without : ℕ → ℕ → ℕ
-without zero s = s / 2 * 2
-without (suc j) s = without j (s / 2) * 2 + s % 2
