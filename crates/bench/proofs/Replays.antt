@@ -1,5 +1,5 @@
 -- Histories run on a new bench: the work memory lent and given back, and the promise after every call.
-use Rattle.std.proofs.Common.{◌≡◌, ℕ, ◌+◌, ◌-◌, ◌<◌, ◌≤◌, min, false, List, [], ◌∷◌, ◌++◌, map, length, get_or, take, drop, set, Some, None, Option, Result, sym, refl, ap, ◌∙◌, subst, arith}
+use Rattle.std.proofs.Common.{◌≡◌, ℕ, ◌+◌, ◌<◌, ◌≤◌, min, false, List, [], ◌∷◌, ◌++◌, map, length, get_or, take, drop, set, Some, None, Option, Result, sym, refl, ap, ◌∙◌, subst, arith}
 use Rattle.bench.specs.Histories.{History, Moment, Replayed, StandsAt, StepTo, asked, begun, call_with, number_in, onward, run, wanted}
 use Rattle.bench.specs.Ledger.{Call, accepted, fault, ledger_after, number, refusals_of, work_of}
 use Rattle.bench.specs.Promise.{Stands}
@@ -32,16 +32,16 @@ module _ {R B : Type 0} (kind : Kind R) (means : B → Meaning R) (rewrites : B 
 
   pub lent_step : (call : Asked R) (b b' : Bench B) (list list' work work' : List ℕ) (lent : ℕ) (r : Result (ℕ × ℕ) BenchFault) (told : ℕ)
       → lent ≡ min (wanted call) (length work)
-      → Stepped kind means rewrites (call_with (length (take (lent - 0) work)) call) b b' list list' (take (lent - 0) work) work' r
-      → length work' ≡ length (take (lent - 0) work) → told ≡ number_in r
+      → Stepped kind means rewrites (call_with (length (take lent work)) call) b b' list list' (take lent work) work' r
+      → length work' ≡ length (take lent work) → told ≡ number_in r
       → StepTo kind means rewrites (asked (length work) call) told (record { bench = b; list = list; work = work })
-      (record { bench = b'; list = list'; work = work' ++ drop (lent - 0) work })
+      (record { bench = b'; list = list'; work = work' ++ drop lent work })
   lent_step call b b' list list' work work' lent r told e s kept t = record {
     result = r;
     stepped =
         subst (λ (l : List ℕ). Stepped kind means rewrites (call_with n call) b b' list list' (take w work) l r) (sym first)
         (subst (λ (l : List ℕ). Stepped kind means rewrites (call_with n call) b b' list list' l work' r) (ap (λ (k : ℕ). take k work) at)
-        (subst (λ (k : ℕ). Stepped kind means rewrites (call_with k call) b b' list list' (take (lent - 0) work) work' r) long s));
+        (subst (λ (k : ℕ). Stepped kind means rewrites (call_with k call) b b' list list' (take lent work) work' r) long s));
     beyond = ap (λ (k : ℕ). drop k (work' ++ rest)) size ∙ drop-append_seam work' rest ∙ ap (λ (k : ℕ). drop k work) at;
     numbered = t;
   }
@@ -53,19 +53,19 @@ module _ {R B : Type 0} (kind : Kind R) (means : B → Meaning R) (rewrites : B 
       w = work_of (call_with n call)
 
       rest : List ℕ
-      rest = drop (lent - 0) work
+      rest = drop lent work
 
-      lent_is : lent - 0 ≡ n
+      lent_is : lent ≡ n
       lent_is = let h = e in omega (arith, h)
 
-      at : lent - 0 ≡ w
+      at : lent ≡ w
       at = lent_is ∙ sym (work_with n call)
 
-      within : lent - 0 ≤ length work
+      within : lent ≤ length work
       within = let h = e in omega (arith, h)
 
-      long : length (take (lent - 0) work) ≡ n
-      long = length-take-le (lent - 0) work within ∙ lent_is
+      long : length (take lent work) ≡ n
+      long = length-take-le lent work within ∙ lent_is
 
       size : w ≡ length work'
       size = work_with n call ∙ sym (kept ∙ long)

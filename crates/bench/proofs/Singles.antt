@@ -9,6 +9,7 @@ use Rattle.books.specs.Changes.{withdraw_fault}
 use Rattle.books.specs.Meanings.{Meaning, Rec, Sound}
 use Rattle.books.specs.Questions.{find}
 use Rattle.books.specs.declared.faults.BookFault.TheVariants.{NoTag, NotHeld}
+use Rattle.books.specs.declared.faults.BookFault.{BookFault}
 use Rattle.covers.proofs.PlanLists.{plans_list}
 use Rattle.covers.specs.Answers.{listed, told}
 use Rattle.covers.specs.Plans.{plans_of}
@@ -71,3 +72,12 @@ module _ {R : Type 0} (kind : Kind R) (m : Meaning R) where
       go true held h = cc
       go false true h = refl
       go false false h = cc
+
+  -- and so is one for which no fault is found
+  pub single_held : (tag work : ℕ) → single_fault m tag work ≡ None → is_some (find tag m.held) ≡ true
+  single_held tag work e = held_not_refused tag (go (short_of work) (withdraw_fault m tag) e)
+    where
+      go : (short : Option BenchFault) (fault : Option BookFault) → or_else short (in_book fault) ≡ None → None ≡ fault
+      go (Some f) fault e = cc
+      go None (Some f) e = cc
+      go None None e = refl

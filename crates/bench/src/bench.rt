@@ -1,4 +1,5 @@
-// The bench: a book, and what its last accepted call counted.
+// The bench: a book, and what its last accepted call counted. List and work memory are arguments of each call, and no struct: they are the
+// caller's, who may lend other memory to the next call.
 
 ghost use Rattle.std.specs.Prelude.{◌≡◌, ◌^◌, ◌<◌, ◌≤◌, length, take, replicate};
 ghost use Rattle.bench.specs.Ledger.{change, shelve, short_of};
@@ -21,14 +22,14 @@ use readings::kinds::Reading;
 use sets::clear;
 
 // work memory holds the largest matrix: 64 × 63 / 2 rows
-const MOST_ROWS: usize = 2016;
+pub const MOST_ROWS: usize = 2016;
 
 #[derive(Drop)]
 pub struct Bench<B> {
     book: B,
     // how many plans the last accepted call counted
     count: u32,
-    // 1 where they were more than the places of the list
+    // 1 where they were more than the places of the list, else 0: a rule of the project, whose user takes two numbers for an answer
     over: u32,
 }
 
@@ -106,6 +107,7 @@ impl<B: Book> Bench<B> {
     }
 }
 
+// Apart from the call above so that a wrong call there is refused by a fact, and not by this proof.
 fn shelve_on<B: Book>(
     bench: &mut Bench<B>,
     list: &mut [u32],
@@ -117,6 +119,7 @@ fn shelve_on<B: Book>(
     Ok(list_again(bench, list, work))
 }
 
+// Apart from the call above so that a wrong call there is refused by a fact, and not by this proof.
 fn enter_on<B: Book>(
     bench: &mut Bench<B>,
     tag: u16,
@@ -132,6 +135,7 @@ fn enter_on<B: Book>(
     list_changed(bench, changed, list, work)
 }
 
+// Apart from the call above so that a wrong call there is refused by a fact, and not by this proof.
 fn withdraw_on<B: Book>(
     bench: &mut Bench<B>,
     tag: u16,
@@ -145,6 +149,7 @@ fn withdraw_on<B: Book>(
     list_changed(bench, changed, list, work)
 }
 
+// Apart from the call above so that a wrong call there is refused by a fact, and not by this proof.
 fn amend_on<B: Book>(
     bench: &mut Bench<B>,
     tag: u16,
@@ -160,7 +165,8 @@ fn amend_on<B: Book>(
     list_changed(bench, changed, list, work)
 }
 
-// Lists again where the book was changed; where it refused, its fault goes up and all is as it was.
+// Lists again where the book was changed; where it refused, its fault goes up and all is as it was. Four private functions ask for
+// enough work memory: a struct with that fact would hold the caller's memory under a ghost name, no plainer.
 fn list_changed<B: Book>(
     bench: &mut Bench<B>,
     changed: Result<(), BookFault>,
@@ -196,7 +202,7 @@ fn list_again<B: Book>(bench: &mut Bench<B>, list: &mut [u32], work: &mut [u32])
 }
 
 // Writes the matrix into the work memory, and lists its minimal covers.
-fn list_plans<B: Shown>(book: &B, list: &mut [u32], work: &mut [u32]) -> (u32, u32)
+pub(crate) fn list_plans<B: Shown>(book: &B, list: &mut [u32], work: &mut [u32]) -> (u32, u32)
     requires { 2016 ≤ length work.old }
     ensures answer { result ≡ told (length list.old) (plans_by B.Reading.Reading.kind (B.Shown.means book.now)) }
     ensures after { list.new ≡ listed (length list.old) (plans_by B.Reading.Reading.kind (B.Shown.means book.now)) }
@@ -206,7 +212,7 @@ fn list_plans<B: Shown>(book: &B, list: &mut [u32], work: &mut [u32]) -> (u32, u
     cover_written(book.width(), count, list, work)
 }
 
-// Lists the minimal covers of the rows in the first places of the work memory, and clears it.
+// Lists the minimal covers of the rows in the first places of the work memory, and clears it: all of it, so that no slice of the rows serves.
 pub(crate) fn cover_written(
     width: u32,
     count: usize,
@@ -218,7 +224,7 @@ pub(crate) fn cover_written(
     ensures after { list.new ≡ listed (length list.old) (plans_of (take count work.old) width) }
     ensures cleared { work.new ≡ replicate (length work.old) 0 }
 {
-    let answer = cover_rows(width, &work[0..count], list);
+    let answer = cover_rows(width, &work[..count], list);
     clear(work);
     answer
 }
@@ -229,8 +235,5 @@ fn cover_rows(width: u32, rows: &[u32], list: &mut [u32]) -> (u32, u32)
     ensures answer { result ≡ told (length list.old) (plans_of rows.now width) }
     ensures after { list.new ≡ listed (length list.old) (plans_of rows.now width) }
 {
-    match cover(width, rows, list) {
-        Ok(answer) => answer,
-        Err(_) => unreachable(),
-    }
+    cover(width, rows, list).unwrap()
 }

@@ -5,7 +5,7 @@ ghost use Rattle.bench.specs.declared.faults.BenchFault.TheVariants.{InBook};
 ghost use Rattle.std.specs.Prelude.{◌≡◌};
 
 use books::faults::BookFault;
-use refusals::{Fault, Origin, Place, Refusal};
+use refusals::{Origin, Refusal};
 
 // A call that a bench refuses.
 #[derive(Clone, Copy, PartialEq, Eq, Debug)]
@@ -16,17 +16,14 @@ pub enum BenchFault {
     InBook(BookFault),
 }
 
-impl Fault for BenchFault {
-    ghost line = { bench_line };
+// The fault's line of the refusal table.
+impl From<BenchFault> for Refusal {
+    ghost from_gives = { λ fault r. r ≡ bench_line fault };
 
-    fn refusal(&self) -> Refusal {
-        match self {
-            BenchFault::Work => Refusal {
-                number: 14,
-                origin: Origin::Bench,
-                place: Place::At(0),
-            },
-            BenchFault::InBook(fault) => fault.refusal(),
+    fn from(fault: BenchFault) -> Refusal {
+        match fault {
+            BenchFault::Work => Refusal::at(14, Origin::Bench, 0),
+            BenchFault::InBook(fault) => fault.into(),
         }
     }
 }

@@ -10,7 +10,7 @@ use crate::faults::BenchFault;
 use books::book::Book;
 use books::shown::Shown;
 use readings::kinds::Reading;
-use refusals::Fault;
+use refusals::Refusal;
 
 // A call of a bench, and how many places of the work memory it is lent.
 #[derive(Drop)]
@@ -36,13 +36,13 @@ pub enum Call<'a, R> {
     },
 }
 
-// The number that a call is answered with, 0 where it is accepted.
+// The number that a call is answered with, 0 where it is accepted: the user's memory for them has numbers, and the ledger tells them so.
 fn number_of(res: Result<(u32, u32), BenchFault>) -> u32
     ensures { result ≡ number_in res }
 {
     match res {
         Ok(_) => 0,
-        Err(fault) => fault.refusal().number,
+        Err(fault) => Refusal::from(fault).number,
     }
 }
 
@@ -50,17 +50,11 @@ fn wanted_by<R>(call: &Call<'_, R>) -> usize
     ensures { result ≡ wanted call.now }
 {
     match call {
-        Call::Shelve { work } => *work,
-        Call::Enter { work, .. } => *work,
-        Call::Withdraw { work, .. } => *work,
-        Call::Amend { work, .. } => *work,
+        Call::Shelve { work }
+        | Call::Enter { work, .. }
+        | Call::Withdraw { work, .. }
+        | Call::Amend { work, .. } => *work,
     }
-}
-
-fn fewer(a: usize, b: usize) -> usize
-    ensures { result ≡ min a b }
-{
-    if a < b { a } else { b }
 }
 
 // One call, lent all of this work memory.
@@ -99,10 +93,11 @@ fn step_lent<B: Book>(
 ) -> u32
     ensures { StepTo B.Reading.Reading.kind B.Shown.means B.Book.rewrites (asked (length work.old) call.now) result (record { bench = bench.entry.now; list = list.old; work = work.old }) (record { bench = bench.exit.now; list = list.new; work = work.new }) }
 {
-    let lent = fewer(wanted_by(call), work.len());
-    number_of(step(bench, call, list, &mut work[0..lent]))
+    let lent = wanted_by(call).min(work.len());
+    number_of(step(bench, call, list, &mut work[..lent]))
 }
 
+// What a call is told stands at its own index: what is written through `iter_mut` is not known to a proof after the loop.
 // Runs the calls one after another on a new bench of this book, as many as there are places for their numbers; answers the bench.
 pub fn replay<B: Book>(
     book: B,
@@ -116,6 +111,7 @@ pub fn replay<B: Book>(
     replay_on(book, calls, list, work, told)
 }
 
+// Apart from the call above so that a wrong call there is refused by a fact, and not by this proof.
 fn replay_on<B: Book>(
     book: B,
     calls: &[Call<'_, B::Reading>],
@@ -126,13 +122,14 @@ fn replay_on<B: Book>(
     ensures { Replayed B.Reading.Reading.kind B.Shown.means B.Book.rewrites book (run calls.now work.old told.old) list.old work.old told.old result list.new work.new told.new }
 {
     let mut bench = Bench::new(book);
-    let count = fewer(calls.len(), told.len());
-    for i in 0..count {
-        told[i] = step_lent(&mut bench, &calls[i], list, work);
+    let count = calls.len().min(told.len());
+    for (i, call) in calls[..count].iter().enumerate() {
+        told[i] = step_lent(&mut bench, call, list, work);
     }
     bench
 }
 
+// Ten parameters, five for each: all that is lent is the caller's own, and in a struct would be known after the call by ghost names alone.
 // Runs two lists of calls on new benches of two books with one kind of reading; answers both benches.
 pub fn replay_two<B: Book, C: Book<Reading = B::Reading>>(
     book: B,
@@ -155,6 +152,7 @@ pub fn replay_two<B: Book, C: Book<Reading = B::Reading>>(
     )
 }
 
+// Apart from the call above so that a wrong call there is refused by a fact, and not by this proof.
 fn run_two<B: Book, C: Book<Reading = B::Reading>>(
     book: B,
     calls: &[Call<'_, B::Reading>],

@@ -8,6 +8,9 @@ pub mod faults;
 // the bench and its four calls
 pub mod bench;
 
+// plans of a whole book, without a bench
+pub mod whole;
+
 // plans for one record
 pub mod single;
 

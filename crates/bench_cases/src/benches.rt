@@ -12,6 +12,7 @@ use layers::bar::Bar;
 use page_book::book::PageBook;
 use slot_book::memory::SlotBook;
 use slot_book::slots::Slot;
+use std::array::from_fn;
 use std::process::Abort;
 
 const EMPTY: Slot = Slot { tag: 0, part: 0 };
@@ -93,12 +94,7 @@ fn a_barred_test_is_in_no_plan(rt: HostRuntime) {
 
 // each part its own assembly, but part 3, which belongs to part 1
 fn three_in_one() -> [u8; 250] {
-    let mut table = [1u8; 250];
-    let mut part = 1;
-    for entry in table.iter_mut() {
-        *entry = part;
-        part = if part < 250 { part + 1 } else { part };
-    }
+    let mut table = from_fn(|place| place as u8 + 1);
     table[2] = 1;
     table
 }

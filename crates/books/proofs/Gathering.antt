@@ -16,10 +16,7 @@ Of P (Some x) = P x
 
 module _ {R : Type 0} where
   no_some : (x : Rec R) → ◌≡◌ {A = Option (Rec R)} None (Some x) → ⊥
-  no_some x e = let z : ◌≡◌ {A = ℕ} 0 1 = cc in clash z
-    where
-      clash : ◌≡◌ {A = ℕ} 0 1 → ⊥
-      clash q = omega arith
+  no_some x e = cc
 
   -- ---- the questions
 

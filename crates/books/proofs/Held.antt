@@ -77,10 +77,7 @@ module _ {R : Type 0} where
       go : (b : Bool) → (y.tag ≡ x.tag) ⊎ (y.tag ≢ x.tag) → (find x.tag ys ≡ None → find x.tag (insert x ys) ≡ Some x)
           → find x.tag (cond b (x ∷ y ∷ ys) (y ∷ insert x ys)) ≡ Some x
       go true c f = find_here x.tag x (y ∷ ys) refl
-      go false (inl e) f = let p = sym n ∙ find_here x.tag y ys e in let z : ◌≡◌ {A = ℕ} 0 1 = cc in absurd (clash z)
-        where
-          clash : ◌≡◌ {A = ℕ} 0 1 → ⊥
-          clash q = omega arith
+      go false (inl e) f = let p = sym n ∙ find_here x.tag y ys e in cc
       go false (inr ne) f = find_on x.tag y (insert x ys) ne ∙ f (sym (find_on x.tag y ys ne) ∙ n)
 
   pub find_insert_on : (t : ℕ) (x : Rec R) (xs : List (Rec R)) → x.tag ≢ t → find t (insert x xs) ≡ find t xs
@@ -111,10 +108,7 @@ module _ {R : Type 0} where
       go : (b : Bool) → ltb x.tag y.tag ≡ b → (y.tag ≡ x.tag) ⊎ (y.tag ≢ x.tag) → (find x.tag ys ≡ None → Rising (insert x ys))
           → Rising (cond b (x ∷ y ∷ ys) (y ∷ insert x ys))
       go true e c f = let l = ltb-true x.tag y.tag e in ((l, above_more x.tag y.tag (omega arith) ys a), (a, r))
-      go false e (inl s) f = let p = sym n ∙ find_here x.tag y ys s in let z : ◌≡◌ {A = ℕ} 0 1 = cc in absurd (clash z)
-        where
-          clash : ◌≡◌ {A = ℕ} 0 1 → ⊥
-          clash q = omega arith
+      go false e (inl s) f = let p = sym n ∙ find_here x.tag y ys s in cc
       go false e (inr ne) f =
           let l = ltb-false x.tag y.tag e in
           let above : y.tag < x.tag = omega arith in

@@ -2,10 +2,9 @@
 
 ghost use Rattle.books.specs.Lines.{page_line, book_line};
 ghost use Rattle.books.specs.declared.faults.BookFault.TheVariants.{InPage};
-ghost use Rattle.refusals.specs.declared.Place.TheVariants.{At};
 ghost use Rattle.std.specs.Prelude.{◌≡◌};
 
-use refusals::{Fault, Origin, Place, Refusal};
+use refusals::{Origin, Place, Refusal};
 
 // A page whose bytes are no book.
 #[derive(Clone, Copy, PartialEq, Eq, Debug)]
@@ -45,58 +44,42 @@ pub enum BookFault {
     NotHeld(u16),
 }
 
-impl Fault for PageFault {
-    ghost line = { page_line };
+// The fault's line of the refusal table.
+impl From<PageFault> for Refusal {
+    ghost from_gives = { λ fault r. r ≡ page_line fault };
 
-    fn refusal(&self) -> Refusal {
-        match *self {
-            PageFault::Layout { record, byte } => {
-                Refusal {
-                    number: 3,
-                    origin: Origin::Page,
-                    place: Place::InPage { record, byte },
-                }
-            }
-            PageFault::Twice { record } => {
-                Refusal {
-                    number: 4,
-                    origin: Origin::Page,
-                    place: Place::InPage { record, byte: 0 },
-                }
-            }
+    fn from(fault: PageFault) -> Refusal {
+        let (number, record, byte) = match fault {
+            PageFault::Layout { record, byte } => (3, record, byte),
+            PageFault::Twice { record } => (4, record, 0),
+        };
+        Refusal {
+            number,
+            origin: Origin::Page,
+            place: Place::InPage { record, byte },
         }
     }
 }
 
-impl Fault for BookFault {
-    ghost line = { book_line };
+// The fault's line of the refusal table.
+impl From<BookFault> for Refusal {
+    ghost from_gives = { λ fault r. r ≡ book_line fault };
 
-    fn refusal(&self) -> Refusal {
-        match self {
-            BookFault::Width => line(1, Origin::Book, 0),
-            BookFault::Size => line(2, Origin::Book, 0),
-            BookFault::InPage(fault) => fault.refusal(),
-            BookFault::NoTag => line(5, Origin::Book, 0),
-            BookFault::Part(part) => line(6, Origin::Book, *part as u64),
-            BookFault::Readings => line(7, Origin::Book, 0),
-            BookFault::Test(test) => line(8, Origin::Book, *test as u64),
-            BookFault::ClosedPart(part) => line(9, Origin::Assembly, *part as u64),
-            BookFault::ClosedTest(test) => line(10, Origin::Bar, *test as u64),
-            BookFault::Held(tag) => line(11, Origin::Book, *tag as u64),
-            BookFault::Full => line(12, Origin::Book, 0),
-            BookFault::NotHeld(tag) => line(13, Origin::Book, *tag as u64),
+    fn from(fault: BookFault) -> Refusal {
+        match fault {
+            BookFault::Width => Refusal::at(1, Origin::Book, 0),
+            BookFault::Size => Refusal::at(2, Origin::Book, 0),
+            BookFault::InPage(fault) => fault.into(),
+            BookFault::NoTag => Refusal::at(5, Origin::Book, 0),
+            BookFault::Part(part) => Refusal::at(6, Origin::Book, part.into()),
+            BookFault::Readings => Refusal::at(7, Origin::Book, 0),
+            BookFault::Test(test) => Refusal::at(8, Origin::Book, test.into()),
+            BookFault::ClosedPart(part) => Refusal::at(9, Origin::Assembly, part.into()),
+            BookFault::ClosedTest(test) => Refusal::at(10, Origin::Bar, test.into()),
+            BookFault::Held(tag) => Refusal::at(11, Origin::Book, tag.into()),
+            BookFault::Full => Refusal::at(12, Origin::Book, 0),
+            BookFault::NotHeld(tag) => Refusal::at(13, Origin::Book, tag.into()),
         }
-    }
-}
-
-// A line of the table, with a place that is a number.
-fn line(number: u32, origin: Origin, place: u64) -> Refusal
-    ensures { result ≡ record { number = number; origin = origin; place = At place } }
-{
-    Refusal {
-        number,
-        origin,
-        place: Place::At(place),
     }
 }
 

@@ -1,7 +1,8 @@
 // The refusal table, looked up for any book through its questions: every implementation of the changes asks here first.
 
-ghost use Rattle.std.specs.Prelude.{◌≡◌, ◌≤◌, length, IfNone};
+ghost use Rattle.std.specs.Prelude.{◌≡◌, ◌≤◌, length, OnOk};
 ghost use Rattle.books.specs.Changes.{amend, closed_reading, enter, enter_arguments, enter_closed, enter_held, not_held, refused, withdraw};
+ghost use Rattle.refusals.specs.Faults.{passed};
 
 use crate::faults::BookFault;
 use crate::shown::Shown;
@@ -9,119 +10,112 @@ use readings::kinds::Reading;
 
 const LAST_PART: u8 = 250;
 
-// The first fault of entering a record, by rising number, or none.
-pub fn enter_fault<B: Shown>(
+// Refuses to enter a record with the first fault that the table has, by rising number.
+pub fn check_enter<B: Shown>(
     book: &B,
     tag: u16,
     part: u8,
     readings: &[B::Reading],
-) -> Option<BookFault>
-    ensures { result ≡ refused B.Reading.Reading.kind (B.Shown.means book.now) (enter tag part readings.now) }
+) -> Result<(), BookFault>
+    ensures { result ≡ passed (refused B.Reading.Reading.kind (B.Shown.means book.now) (enter tag part readings.now)) }
 {
-    if let Some(fault) = by_arguments(book, tag, part, readings) {
-        return Some(fault);
-    }
-    if let Some(fault) = by_closed(book, part, readings) {
-        return Some(fault);
-    }
-    by_held(book, tag)
+    check_arguments(book, tag, part, readings)?;
+    check_closed(book, part, readings)?;
+    check_held(book, tag)
 }
 
-fn by_arguments<B: Shown>(
+fn check_arguments<B: Shown>(
     book: &B,
     tag: u16,
     part: u8,
     readings: &[B::Reading],
-) -> Option<BookFault>
-    ensures answer { result ≡ enter_arguments (B.Shown.means book.now) tag part readings.now }
-    ensures few { IfNone result (length readings.now ≤ 24) }
+) -> Result<(), BookFault>
+    ensures answer { result ≡ passed (enter_arguments (B.Shown.means book.now) tag part readings.now) }
+    ensures few { OnOk result (length readings.now ≤ 24) }
 {
     if tag == 0 {
-        return Some(BookFault::NoTag);
+        return Err(BookFault::NoTag);
     }
-    if part < 1 || part > LAST_PART {
-        return Some(BookFault::Part(part));
+    if !(1..=LAST_PART).contains(&part) {
+        return Err(BookFault::Part(part));
     }
     if readings.len() != book.width() as usize {
-        return Some(BookFault::Readings);
+        return Err(BookFault::Readings);
     }
-    None
+    Ok(())
 }
 
-fn by_closed<B: Shown>(book: &B, part: u8, readings: &[B::Reading]) -> Option<BookFault>
+fn check_closed<B: Shown>(book: &B, part: u8, readings: &[B::Reading]) -> Result<(), BookFault>
     requires { length readings.now ≤ 24 }
-    ensures { result ≡ enter_closed B.Reading.Reading.kind (B.Shown.means book.now) part readings.now }
+    ensures { result ≡ passed (enter_closed B.Reading.Reading.kind (B.Shown.means book.now) part readings.now) }
 {
     if book.closed_part(part) {
-        return Some(BookFault::ClosedPart(part));
+        return Err(BookFault::ClosedPart(part));
     }
-    closed_reading(book, readings)
+    check_readings(book, readings)
 }
 
-// The lowest closed test at which the readings are not blank.
-fn closed_reading<B: Shown>(book: &B, readings: &[B::Reading]) -> Option<BookFault>
+// Refuses the lowest closed test at which the readings are not blank.
+fn check_readings<B: Shown>(book: &B, readings: &[B::Reading]) -> Result<(), BookFault>
     requires { length readings.now ≤ 24 }
-    ensures { result ≡ closed_reading B.Reading.Reading.kind (B.Shown.means book.now).closed_test 1 readings.now }
+    ensures { result ≡ passed (closed_reading B.Reading.Reading.kind (B.Shown.means book.now).closed_test 1 readings.now) }
 {
-    let mut test = 1;
-    for reading in readings {
+    for (place, reading) in readings.iter().enumerate() {
+        let test = place as u32 + 1;
         if book.closed_test(test) && !reading.is_blank() {
-            return Some(BookFault::ClosedTest(test));
+            return Err(BookFault::ClosedTest(test));
         }
-        test += 1;
     }
-    None
+    Ok(())
 }
 
-fn by_held<B: Shown>(book: &B, tag: u16) -> Option<BookFault>
-    ensures { result ≡ enter_held (B.Shown.means book.now) tag }
+fn check_held<B: Shown>(book: &B, tag: u16) -> Result<(), BookFault>
+    ensures { result ≡ passed (enter_held (B.Shown.means book.now) tag) }
 {
     if book.part(tag).is_some() {
-        return Some(BookFault::Held(tag));
+        return Err(BookFault::Held(tag));
     }
     if book.held() == book.capacity() {
-        return Some(BookFault::Full);
+        return Err(BookFault::Full);
     }
-    None
+    Ok(())
 }
 
-// The first fault of withdrawing a tag, or none.
-pub fn withdraw_fault<B: Shown>(book: &B, tag: u16) -> Option<BookFault>
-    ensures { result ≡ refused B.Reading.Reading.kind (B.Shown.means book.now) (withdraw tag) }
+// Refuses to withdraw a tag with the first fault that the table has.
+pub fn check_withdraw<B: Shown>(book: &B, tag: u16) -> Result<(), BookFault>
+    ensures { result ≡ passed (refused B.Reading.Reading.kind (B.Shown.means book.now) (withdraw tag)) }
 {
     match tag {
-        0 => Some(BookFault::NoTag),
-        named => by_absence(book, named),
+        0 => Err(BookFault::NoTag),
+        named => check_absence(book, named),
     }
 }
 
-// The first fault of amending a reading, or none.
-pub fn amend_fault<B: Shown>(
+// Refuses to amend a reading with the first fault that the table has.
+pub fn check_amend<B: Shown>(
     book: &B,
     tag: u16,
     test: u32,
     reading: B::Reading,
-) -> Option<BookFault>
-    ensures { result ≡ refused B.Reading.Reading.kind (B.Shown.means book.now) (amend tag test reading) }
+) -> Result<(), BookFault>
+    ensures { result ≡ passed (refused B.Reading.Reading.kind (B.Shown.means book.now) (amend tag test reading)) }
 {
     if tag == 0 {
-        return Some(BookFault::NoTag);
+        return Err(BookFault::NoTag);
     }
-    if test < 1 || test > book.width() {
-        return Some(BookFault::Test(test));
+    if !(1..=book.width()).contains(&test) {
+        return Err(BookFault::Test(test));
     }
     if book.closed_test(test) {
-        return Some(BookFault::ClosedTest(test));
+        return Err(BookFault::ClosedTest(test));
     }
-    by_absence(book, tag)
+    check_absence(book, tag)
 }
 
-fn by_absence<B: Shown>(book: &B, tag: u16) -> Option<BookFault>
-    ensures { result ≡ not_held (B.Shown.means book.now) tag }
+// Refuses a tag that is not held.
+fn check_absence<B: Shown>(book: &B, tag: u16) -> Result<(), BookFault>
+    ensures { result ≡ passed (not_held (B.Shown.means book.now) tag) }
 {
-    if book.part(tag).is_some() {
-        None
-    } else {
-        Some(BookFault::NotHeld(tag))
-    }
+    book.part(tag).ok_or(BookFault::NotHeld(tag))?;
+    Ok(())
 }

@@ -1,11 +1,11 @@
 // The refusal table's lines of the faults, with origin and place.
 
 use crate::faults::{BookFault, PageFault};
-use refusals::{Fault, Origin, Place};
+use refusals::{Origin, Place, Refusal};
 use std::process::Abort;
 
 fn line_is(rt: &impl Abort, fault: BookFault, number: u32, origin: Origin, place: Place) {
-    let refusal = fault.refusal();
+    let refusal = Refusal::from(fault);
     assert_eq!(rt; refusal.number, number);
     assert_eq!(rt; refusal.origin, origin);
     assert_eq!(rt; refusal.place, place);

@@ -4,21 +4,18 @@ use books::book::Book;
 use books::faults::BookFault;
 use books::shown::Shown;
 use layers::assembly::Assembly;
-use layers::bar::Bar;
+use layers::bar::{Bar, check as bar_check};
+use layers::faults::BarFault;
 use slot_book::memory::SlotBook;
 use slot_book::slots::Slot;
+use std::array::from_fn;
 use std::process::Abort;
 
 const EMPTY: Slot = Slot { tag: 0, part: 0 };
 
 // each part its own assembly, but part 3, which belongs to part 1
 fn three_in_one() -> [u8; 250] {
-    let mut table = [1u8; 250];
-    let mut part = 1;
-    for entry in table.iter_mut() {
-        *entry = part;
-        part = if part < 250 { part + 1 } else { part };
-    }
+    let mut table = from_fn(|place| place as u8 + 1);
     table[2] = 1;
     table
 }
@@ -86,4 +83,29 @@ fn two_bars_are_one(rt: HostRuntime) {
     let mut book = SlotBook::new(&mut slots, &mut cells, 3);
     assert_eq!(rt; book.enter(8, 3, &[4, 7, 5]), Ok(()));
     two_bars(&rt, book);
+}
+
+// What a bar's check says over a book of width 5.
+fn bar_over_five<B: Book<Reading = u8> + Drop>(rt: &impl Abort, book: B) {
+    assert_eq!(rt; bar_check(&book, 0), Ok(()));
+    assert_eq!(rt; bar_check(&book, 31), Ok(()));
+    assert_eq!(rt; bar_check(&book, 32), Err(BarFault::Outside(6)));
+    assert_eq!(rt;
+        bar_check(&book, 2147483648 + 64 + 1),
+        Err(BarFault::Outside(7))
+    );
+}
+
+// And over a book of width 24.
+fn bar_over_24<B: Book<Reading = u8> + Drop>(rt: &impl Abort, book: B) {
+    assert_eq!(rt; bar_check(&book, 16777215), Ok(()));
+    assert_eq!(rt; bar_check(&book, 2147483648), Err(BarFault::Outside(32)));
+}
+
+#[test]
+fn a_bar_is_checked_against_the_width_below(rt: HostRuntime) {
+    let mut slots = [EMPTY; 1];
+    let mut cells = [0u8; 24];
+    bar_over_five(&rt, SlotBook::new(&mut slots, &mut cells[0..5], 5));
+    bar_over_24(&rt, SlotBook::new(&mut slots, &mut cells, 24));
 }

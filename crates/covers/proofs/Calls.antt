@@ -1,5 +1,5 @@
 -- The cover call: its faults as computed and as meant, and its list.
-use Rattle.std.proofs.Common.{◌≡◌, ℕ, suc, ◌+◌, ◌-◌, ◌/◌, ◌%◌, ◌^◌, ◌<◌, ◌≤◌, Bool, true, false, cond, ◌&&◌, ltb, leb, ◌≢◌, ◌⊎◌, List, [], ◌∷◌, ◌++◌, length, get_or, take, drop, replicate, Some, None, Option, sym, refl, ap, ◌∙◌, subst, inl, inr, zero-add, zero-mul, arith, pow_pos, shr-shr, MatchOption}
+use Rattle.std.proofs.Common.{◌≡◌, ℕ, suc, ◌+◌, ◌-◌, ◌*◌, ◌/◌, ◌%◌, ◌^◌, ◌<◌, ◌≤◌, Bool, true, false, cond, ◌&&◌, ltb, leb, ◌≢◌, ◌⊎◌, List, [], ◌∷◌, ◌++◌, length, get_or, take, drop, replicate, Some, None, Option, Ok, Err, sym, refl, ap, ◌∙◌, subst, inl, inr, zero-add, zero-mul, arith, pow_pos, shr-shr, MatchOption}
 use Rattle.sets.proofs.Bits.{some_bit}
 use Rattle.covers.proofs.PlanLists.{plans_list}
 use Rattle.sets.proofs.Places.{below_place}
@@ -9,7 +9,8 @@ use Rattle.sets.specs.Sets.{Has}
 use Rattle.covers.specs.Theorems.{Fair, Opened, RefusedWith, Wide}
 use Rattle.covers.specs.declared.faults.CoverFault.TheVariants.{Row, Width}
 use Rattle.covers.specs.declared.faults.CoverFault.{CoverFault}
-use Rattle.std.proofs.lemmas.Nat.{le-div}
+use Rattle.std.proofs.lemmas.Nat.{le-div, one_shl}
+use Rattle.refusals.specs.Faults.{passed}
 use Rattle.std.proofs.ByRecursion.{All-get_or, All-weaker}
 use Rattle.std.proofs.lemmas.List.{at_drop_all, at_drop_more, drop-replicate}
 use Rattle.std.proofs.lemmas.Bool.{both_ways, and_from, and_left, and_parts, and_right, cond-false, cond-true, le-leb, leb-true, lt-leb, lt-ltb, le-ltb, ltb-true, ltb-false}
@@ -67,10 +68,7 @@ found_none width k (row ∷ rows) e = go (ltb row (2 ^ width)) refl e (found_non
     go : (b : Bool) → ltb row (2 ^ width) ≡ b → cond b (wide_row width (k + 1) rows) (Some (Row k)) ≡ None
         → (wide_row width (k + 1) rows ≡ None → Every (λ r. r < 2 ^ width) rows) → Every (λ r. r < 2 ^ width) (row ∷ rows)
     go true t f rest = (ltb-true row (2 ^ width) t, rest f)
-    go false t f rest = let z : ◌≡◌ {A = ℕ} 0 1 = cc in absurd (clash z)
-      where
-        clash : ◌≡◌ {A = ℕ} 0 1 → ⊥
-        clash q = omega arith
+    go false t f rest = cc
 
 -- the row that is found is row i of these, counted from k
 abbrev Found : ℕ → ℕ → List ℕ → CoverFault → Type 0
@@ -79,10 +77,7 @@ Found width k rows fault =
 
 found_some : (width k : ℕ) (rows : List ℕ) (fault : CoverFault) → wide_row width k rows ≡ Some fault → Found width k rows fault
 unfolding wide_row
-found_some width k [] fault e = let z : ◌≡◌ {A = ℕ} 0 1 = cc in absurd (clash z)
-  where
-    clash : ◌≡◌ {A = ℕ} 0 1 → ⊥
-    clash q = omega arith
+found_some width k [] fault e = cc
 found_some width k (row ∷ rows) fault e = go (ltb row (2 ^ width)) refl e (found_some width (k + 1) rows fault)
   where
     go : (b : Bool) → ltb row (2 ^ width) ≡ b → cond b (wide_row width (k + 1) rows) (Some (Row k)) ≡ Some fault
@@ -125,6 +120,27 @@ fault_means width rows = tested (leb 1 width && leb width 24) refl
     tested : (b : Bool) → (leb 1 width && leb width 24) ≡ b → MatchOption (cond b (wide_row width 0 rows) (Some Width)) (Opened width rows) (RefusedWith width rows)
     tested true e = let p = and_parts (leb 1 width) (leb width 24) e in searched (leb-true 1 width p.0, leb-true width 24 p.1) (wide_row width 0 rows) refl
     tested false e = unfair e
+
+-- the same by what the check answers
+pub opened_by : (width : ℕ) (rows : List ℕ) (u : Unit {0}) → Ok u ≡ passed (cover_fault width rows) → Opened width rows
+opened_by width rows u e = go (cover_fault width rows) (fault_means width rows) e
+  where
+    go : (o : Option CoverFault) → MatchOption o (Opened width rows) (RefusedWith width rows) → Ok u ≡ passed o → Opened width rows
+    go None h e = h
+    go (Some fault) h e = cc
+
+pub fair_by : (width : ℕ) (rows : List ℕ) (u : Unit {0}) → Ok u ≡ passed (cover_fault width rows) → width ≤ 24
+fair_by width rows u e = (opened_by width rows u e).fair.1
+
+pub refused_by : (width : ℕ) (rows : List ℕ) (fault : CoverFault) → Err fault ≡ passed (cover_fault width rows) → RefusedWith width rows fault
+refused_by width rows fault e = go (cover_fault width rows) (fault_means width rows) e
+  where
+    go : (o : Option CoverFault) → MatchOption o (Opened width rows) (RefusedWith width rows) → Err fault ≡ passed o → RefusedWith width rows fault
+    go None h e = cc
+    go (Some found) h e = let same : found ≡ fault = cc in subst (RefusedWith width rows) same h
+
+pub limit_is : (width : ℕ) → width ≤ 24 → (1 * 2 ^ width) % 4294967296 ≡ 2 ^ width
+limit_is width h = one_shl width 32 (omega arith)
 
 -- ---- the list
 

@@ -1,7 +1,8 @@
 -- Plans: minimal is the same as every test having a row of its own, every cover contains a plan, and the core.
 use Rattle.std.proofs.Common.{◌≡◌, ℕ, zero, suc, ◌<◌, true, eqb, ◌≢◌, ◌⊎◌, List, [], ◌∷◌, sym, refl, ap, ◌∙◌, subst, inl, inr, arith}
 use Rattle.sets.proofs.Bits.{bit_cases, bit_zero, some_bit, within_same}
-use Rattle.covers.proofs.Rows.{all_in, in_all, covers_complete, covers_sound, missing, own_owned, owned_own, owned_within}
+use Rattle.sets.proofs.Members.{all_in, in_all}
+use Rattle.covers.proofs.Rows.{covers_complete, covers_sound, missing, own_owned, owned_own, owned_within}
 use Rattle.sets.proofs.Places.{Lone, alone_lone, and_has, and_parts, has_not, lone_alone, or_cases, or_has, within_le, without, without_has, without_lacks, without_within}
 use Rattle.covers.specs.Plans.{Covers, Plan, core_of, covers, is_plan, owned}
 use Rattle.sets.specs.Sets.{Has, Shares, Within, alone, bit}

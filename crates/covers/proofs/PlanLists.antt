@@ -1,7 +1,8 @@
 -- The list of the plans: split, rising, complete; and what follows for any set.
 use Rattle.std.proofs.Common.{◌≡◌, ℕ, zero, suc, ◌+◌, ◌^◌, ◌<◌, ◌≤◌, Bool, true, false, cond, ◌≢◌, ◌⊎◌, ◌↔◌, List, [], ◌∷◌, ◌++◌, length, filter, sym, refl, ap, ◌∙◌, subst, inl, inr, add-zero, zero-add, arith}
 use Rattle.covers.proofs.Least.{inner_plan, plan_complete, plan_owned, plan_sound}
-use Rattle.covers.proofs.Rows.{all_in, in_all, owned_own, within_or}
+use Rattle.sets.proofs.Members.{all_in, in_all}
+use Rattle.covers.proofs.Rows.{owned_own, within_or}
 use Rattle.sets.proofs.Places.{and_parts, below_place, has_not, lacking, lacking_has, lacking_lacks, place_below}
 use Rattle.covers.specs.Plans.{Covers, Plan, is_plan, plans_in, plans_of}
 use Rattle.sets.specs.Sets.{Has, Shares, Within, bit}

@@ -6,20 +6,10 @@ use Rattle.covers.specs.Plans.{Covers, covers, owned}
 use Rattle.sets.specs.Sets.{Has, Within, alone, bit, meets}
 use Rattle.sets.specs.Lists.{In}
 use Rattle.std.proofs.lemmas.Bool.{and_from, and_parts as both_true}
-use Rattle.std.specs.List.{AllByRecursion as Every}
 use lib.Arith.{bin_ind}
 use lib.Bits.{bit_and}
 
 -- ---- elements
-
-pub all_in : (P : ℕ → Type 0) (xs : List ℕ) (x : ℕ) → Every P xs → In xs x → P x
-all_in P [] x h i = absurd i
-all_in P (y ∷ ys) x h (inl e) = subst P e h.0
-all_in P (y ∷ ys) x h (inr i) = all_in P ys x h.1 i
-
-pub in_all : (P : ℕ → Type 0) (xs : List ℕ) → ((x : ℕ) → In xs x → P x) → Every P xs
-in_all P [] h = tt
-in_all P (y ∷ ys) h = (h y (inl refl), in_all P ys (λ x i. h x (inr i)))
 
 -- ---- covering
 

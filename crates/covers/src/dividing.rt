@@ -1,11 +1,12 @@
 // Dividing the matrix on one test and again on the next: all plans between two sets, rising.
 
-ghost use Rattle.std.specs.Prelude.{◌≡◌, ◌+◌, ◌^◌, ◌<◌, ◌≤◌, length, slice_set};
+ghost use Rattle.std.specs.Prelude.{◌≡◌, ◌+◌, ◌^◌, ◌<◌, ◌≤◌, length};
 ghost use Rattle.covers.specs.Divisions.{Apart, Judged};
 ghost use Rattle.covers.specs.Plans.{plans_in};
 ghost use Rattle.std.proofs.lemmas.List.Edits.{sets};
 
 use crate::scanning::scan;
+use sets::put;
 
 // What a node of the division is: its sets have all chosen tests and else only undecided ones.
 #[derive(Clone, Copy)]
@@ -18,7 +19,8 @@ pub enum Node {
     Inner,
 }
 
-// Lists the plans of a node from place `count` on, and answers the new count.
+// Lists the plans of a node from place `count` on, and answers the new count. The count goes on where there is no place left, so it
+// is no length of the list, and no slice or struct says it plainer.
 pub fn divide(rows: &[u32], chosen: u32, undecided: u32, list: &mut [u32], count: u32) -> u32
     requires node { Apart chosen undecided }
     requires small { chosen + undecided < 2 ^ 24 }
@@ -28,7 +30,10 @@ pub fn divide(rows: &[u32], chosen: u32, undecided: u32, list: &mut [u32], count
 {
     match judge(rows, chosen, undecided) {
         Node::Barren => count,
-        Node::Leaf => put(list, count, chosen),
+        Node::Leaf => {
+            put(list, count as usize, chosen);
+            count + 1
+        }
         Node::Inner => {
             let below = undecided >> 1;
             let test = below + 1;
@@ -53,17 +58,4 @@ fn judge(rows: &[u32], chosen: u32, undecided: u32) -> Node
         return Node::Leaf;
     }
     Node::Inner
-}
-
-// Writes a plan at its place where the list has one, and counts it either way.
-fn put(list: &mut [u32], count: u32, plan: u32) -> u32
-    requires { count < 2 ^ 24 }
-    ensures answer { result ≡ count + 1 }
-    ensures after { list.new ≡ slice_set list.old count plan }
-{
-    let place = count as usize;
-    if place < list.len() {
-        list[place] = plan;
-    }
-    count + 1
 }

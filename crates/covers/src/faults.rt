@@ -3,7 +3,7 @@
 ghost use Rattle.covers.specs.Answers.{cover_line};
 ghost use Rattle.std.specs.Prelude.{◌≡◌};
 
-use refusals::{Fault, Origin, Place, Refusal};
+use refusals::{Origin, Refusal};
 
 #[derive(Clone, Copy, PartialEq, Eq, Debug)]
 pub enum CoverFault {
@@ -13,21 +13,14 @@ pub enum CoverFault {
     Row(u64),
 }
 
-impl Fault for CoverFault {
-    ghost line = { cover_line };
+// The fault's line of the refusal table.
+impl From<CoverFault> for Refusal {
+    ghost from_gives = { λ fault r. r ≡ cover_line fault };
 
-    fn refusal(&self) -> Refusal {
-        match *self {
-            CoverFault::Width => Refusal {
-                number: 1,
-                origin: Origin::Cover,
-                place: Place::At(0),
-            },
-            CoverFault::Row(row) => Refusal {
-                number: 18,
-                origin: Origin::Cover,
-                place: Place::At(row),
-            },
+    fn from(fault: CoverFault) -> Refusal {
+        match fault {
+            CoverFault::Width => Refusal::at(1, Origin::Cover, 0),
+            CoverFault::Row(row) => Refusal::at(18, Origin::Cover, row),
         }
     }
 }

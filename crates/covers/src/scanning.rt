@@ -2,7 +2,7 @@
 
 ghost use Rattle.covers.specs.Scans.{Scanned};
 
-use sets::{meets, single};
+use sets::{EMPTY, meets, single};
 
 // What the rows say of the sets from `chosen` up to `reach`.
 #[derive(Clone, Copy)]
@@ -16,16 +16,17 @@ pub struct Seen {
 }
 
 // One pass over the rows, for the sets from `chosen` up to `reach`.
+#[tactic(auto, using(crate::proofs::Scans::covers_more, crate::proofs::Scans::owned_more))]
 pub fn scan(rows: &[u32], chosen: u32, reach: u32) -> Seen
     ensures { Scanned rows.now chosen reach result.coverable result.covered result.owned }
 {
     let mut coverable = true;
     let mut covered = true;
-    let mut owned = 0;
+    let mut owned = EMPTY;
     for row in rows {
-        coverable = coverable & meets(*row, reach);
-        covered = covered & meets(*row, chosen);
-        owned = owned | single(*row & chosen);
+        coverable &= meets(*row, reach);
+        covered &= meets(*row, chosen);
+        owned |= single(*row & chosen);
     }
     Seen {
         coverable,

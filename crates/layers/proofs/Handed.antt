@@ -1,13 +1,18 @@
 -- What a layer means once a change was handed down: exactly what the change makes of what it meant.
-use Rattle.std.proofs.Common.{◌≡◌, ℕ, ◌+◌, ◌-◌, ◌≤◌, Bool, false, ◌||◌, eqb, leb, List, map, is_some, None, refl, ap, ◌∙◌, arith}
+use Rattle.std.proofs.Common.{◌≡◌, ℕ, ◌+◌, ◌-◌, ◌≤◌, Bool, false, ◌||◌, eqb, leb, List, map, is_some, Some, None, Ok, Option, Result, refl, ap, ◌∙◌, arith}
 use Rattle.books.specs.Changes.{Change, after, amend, enter, held_after, refused, withdraw}
 use Rattle.books.specs.Meanings.{Meaning, Rec}
 use Rattle.layers.specs.Blanks.{blanked_same, blanked_set}
-use Rattle.layers.specs.Down.{Amends, Over, amends, enters}
+use Rattle.layers.specs.Down.{Amends, Over, amends, changed_up, enters}
 use Rattle.layers.specs.Mapped.{find_map, is_some_mapped, map_insert, map_remove, map_reread}
 use Rattle.layers.specs.Assemblies.{as_assembly, assembly_means, assembly_of, belongs}
 use Rattle.layers.specs.Bars.{bar_means, barred, under_bar}
 use Rattle.readings.specs.Kinds.{Kind, Lawful}
+use Rattle.books.specs.Promises.{Changed}
+use Rattle.books.specs.declared.faults.BookFault.{BookFault}
+use Rattle.layers.specs.declared.assembly.Assembly.{Assembly}
+use Rattle.layers.specs.declared.bar.Bar.{Bar}
+use Rattle.refusals.specs.Faults.{passed}
 use Rattle.std.proofs.lemmas.Bool.{and_parts, eqb-true, leb-true, not-false, or_parts, or_right}
 use lib.ListN.{length-map}
 
@@ -97,3 +102,38 @@ module _ {R : Type 0} (kind : Kind R) (table : List ℕ) (m : Meaning R) where
   pub assembly_after : (change : Change R) → refused kind (assembly_means table m) change ≡ None
       → assembly_means table (after m change) ≡ after (assembly_means table m) change
   assembly_after change h = ap (holding (assembly_means table m)) (assembly_held change h)
+
+-- ---- a change handed down
+
+-- a check that passes found no fault
+accepted : {E : Type 0} (o : Option E) → Ok tt ≡ passed o → o ≡ None
+accepted None e = refl
+accepted (Some fault) e = absurd cc
+
+-- what a bar's own table passes, and the book below does, the bar does
+pub bar_handed : {R B : Type 0} (kind : Kind R) (means : B → Meaning R) (rewrites : B → Change R → B → Type 0) (change : Change R)
+    (before later : Bar B) (r : Result (Unit {0}) BookFault) → Lawful R kind → later.tests ≡ before.tests
+    → Ok tt ≡ passed (refused kind (bar_means kind before.tests (means before.below)) change)
+    → Changed kind means rewrites change before.below later.below r
+    → Changed kind (λ (b : Bar B). bar_means kind b.tests (means b.below))
+    (λ (b : Bar B) (c : Change R) (d : Bar B). rewrites b.below c d.below × (d.tests ≡ b.tests)) change before later r
+bar_handed kind means rewrites change before later r law same ok done =
+    let m = means before.below in
+    let none = accepted _ ok in
+    changed_up kind means rewrites _ _ change before.below later.below before later r (bar_over kind before.tests m) none done
+    (λ e. ap (λ (k : ℕ). bar_means kind k (means later.below)) same ∙ ap (bar_means kind before.tests) e
+    ∙ bar_after kind before.tests m law change none) (λ w. (w, same))
+
+-- the same of an assembly
+pub assembly_handed : {R B : Type 0} (kind : Kind R) (means : B → Meaning R) (rewrites : B → Change R → B → Type 0) (change : Change R)
+    (before later : Assembly B) (r : Result (Unit {0}) BookFault) → later.table ≡ before.table
+    → Ok tt ≡ passed (refused kind (assembly_means before.table (means before.below)) change)
+    → Changed kind means rewrites change before.below later.below r
+    → Changed kind (λ (b : Assembly B). assembly_means b.table (means b.below))
+    (λ (b : Assembly B) (c : Change R) (d : Assembly B). rewrites b.below c d.below × (d.table ≡ b.table)) change before later r
+assembly_handed kind means rewrites change before later r same ok done =
+    let m = means before.below in
+    let none = accepted _ ok in
+    changed_up kind means rewrites _ _ change before.below later.below before later r (assembly_over kind before.table m) none done
+    (λ e. ap (λ (k : List ℕ). assembly_means k (means later.below)) same ∙ ap (assembly_means before.table) e
+    ∙ assembly_after kind before.table m change none) (λ w. (w, same))

@@ -1,3 +1,5 @@
 mod Handed
 mod Twice
 mod Lowest
+mod Table
+mod Asked

@@ -7,6 +7,7 @@ use Rattle.layers.specs.Bars.{TwoAsOne, barred, blanked, under_bar}
 use Rattle.readings.specs.Kinds.{Kind}
 use Rattle.sets.proofs.Bits.{bit_cases, bit_of_or}
 use Rattle.sets.specs.Sets.{bit}
+use Rattle.std.proofs.Math.Bool.{or_assoc}
 use lib.Bits.{bit_or}
 use mathlib.Core.Path.{fun_ext}
 
@@ -30,10 +31,6 @@ barred_or width s t test =
     spread : (a b c : Bool) → (a && (b || c)) ≡ ((a && b) || (a && c))
     spread true b c = refl
     spread false b c = refl
-
-or_assoc : (a b c : Bool) → ((a || b) || c) ≡ (a || (b || c))
-or_assoc true b c = refl
-or_assoc false b c = refl
 
 module _ {R : Type 0} (kind : Kind R) where
   blanked_twice : (p q : ℕ → Bool) (test : ℕ) (xs : List R)

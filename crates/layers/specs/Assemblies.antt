@@ -1,9 +1,9 @@
 -- The assembly: a layer that shows each part as the assembly it belongs to. Entry i of a table, from 0, is for part i + 1.
-use Rattle.std.specs.Prelude.{◌≡◌, ℕ, ◌+◌, ◌-◌, ◌<◌, ◌≤◌, Bool, true, false, cond, not, ◌&&◌, ◌||◌, List, [], ◌∷◌, map, is_some, Some, None, Ok, Err, Option, Result, ◌==◌, slice_index}
+use Rattle.std.specs.Prelude.{◌≡◌, ℕ, ◌+◌, ◌-◌, ◌<◌, ◌≤◌, Bool, true, false, cond, not, ◌&&◌, ◌||◌, List, map, is_some, Ok, Err, Option, Result, ◌==◌, slice_index}
 use Rattle.books.specs.Meanings.{Meaning, Rec, is_part}
 use Rattle.layers.specs.declared.faults.AssemblyFault.TheVariants.{Wrong}
 use Rattle.layers.specs.declared.faults.AssemblyFault.{AssemblyFault}
-use Rattle.std.specs.List.{range_with_len}
+use Rattle.std.specs.List.{position, range_with_len}
 use Rattle.std.specs.Option.{option_map}
 
 -- the assembly of a part; a number that is no part is left as it is
@@ -14,14 +14,13 @@ assembly_of table part = cond (is_part part) (slice_index table (part - 1)) part
 abbrev pub right_entry : List ℕ → ℕ → Bool
 right_entry table entry = is_part entry && assembly_of table entry == entry
 
--- the lowest part, from this one on, whose entry is wrong
-unfoldable pub wrong_from : List ℕ → ℕ → List ℕ → Option ℕ
-wrong_from table part [] = None
-wrong_from table part (entry ∷ entries) = cond (right_entry table entry) (wrong_from table (part + 1) entries) (Some part)
+-- the place of the first entry that is wrong, from 0
+abbrev pub wrong_place : List ℕ → Option ℕ
+wrong_place table = position (λ entry. not (right_entry table entry)) table
 
 -- the lowest part whose entry is wrong
 abbrev pub wrong_part : List ℕ → Option ℕ
-wrong_part table = wrong_from table 1 table
+wrong_part table = option_map (λ place. place + 1) (wrong_place table)
 
 -- 15: the lowest part whose entry is wrong
 abbrev pub assembly_fault : List ℕ → Option AssemblyFault

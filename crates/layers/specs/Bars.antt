@@ -1,12 +1,11 @@
 -- The bar: a layer that closes a set of tests. A test j, from 1, counts 2 ^ (j - 1) in the set.
-use Rattle.std.specs.Prelude.{◌≡◌, ℕ, suc, ◌+◌, ◌-◌, ◌/◌, ◌^◌, ◌<◌, ◌≤◌, Bool, cond, not, ◌&&◌, ◌||◌, List, [], ◌∷◌, map, Ok, Err, Option, Result, ◌==◌}
+use Rattle.std.specs.Prelude.{◌≡◌, ℕ, suc, ◌-◌, ◌/◌, ◌^◌, ◌<◌, ◌≤◌, Bool, cond, ◌&&◌, ◌||◌, List, [], ◌∷◌, map, Ok, Err, Option, Result, ◌==◌}
 use Rattle.books.specs.Meanings.{Meaning, Rec, is_test}
 use Rattle.layers.specs.declared.faults.BarFault.TheVariants.{Outside}
 use Rattle.layers.specs.declared.faults.BarFault.{BarFault}
 use Rattle.readings.specs.Kinds.{Kind}
-use Rattle.refusals.specs.Faults.{when}
-use Rattle.sets.specs.Sets.{Has, bit}
-use Rattle.std.specs.Int.Count.{count_trailing_zeros}
+use Rattle.sets.specs.Sets.{Has, bit, first_above}
+use Rattle.std.specs.Option.{option_map}
 
 -- the set holds no test above the width
 abbrev pub in_width : ℕ → ℕ → Bool
@@ -14,7 +13,7 @@ in_width width tests = tests / 2 ^ width == 0
 
 -- 8: the lowest test of the set above the width
 abbrev pub bar_fault : ℕ → ℕ → Option BarFault
-bar_fault width tests = when (not (in_width width tests)) (Outside (width + 1 + count_trailing_zeros 32 (tests / 2 ^ width)))
+bar_fault width tests = option_map Outside (first_above tests width)
 
 -- what the check tells. Passed: every test of the set is within the width. Refused: the named test is of the set and outside the
 -- width, and the set has no lower one outside

@@ -9,15 +9,15 @@ use Rattle.books.specs.declared.faults.BookFault.{BookFault}
 use Rattle.readings.specs.Kinds.{Kind}
 use Rattle.refusals.specs.Faults.{or_else, passed, when}
 use Rattle.std.proofs.lemmas.Bool.{false≢true, not-false, not_from_true}
-use Rattle.std.proofs.Common.{ap, sym, ◌∙◌, arith}
+use Rattle.std.proofs.Common.{ap, sym, ◌∙◌}
 
 -- ---- no fault
 
 pub some_none : {X : Type 0} {x : X} → Some x ≢ None
-some_none e = let z : ◌≡◌ {A = ℕ} 0 1 = cc in omega arith
+some_none e = cc
 
 err_ok : {X E : Type 0} {x : X} {fault : E} → Err fault ≢ Ok x
-err_ok e = let z : ◌≡◌ {A = ℕ} 0 1 = cc in omega arith
+err_ok e = cc
 
 -- neither of two faults is there
 neither : {E : Type 0} (a b : Option E) → or_else a b ≡ None → (a ≡ None) × (b ≡ None)

@@ -1,16 +1,19 @@
 // An assembly shows each part as the assembly it belongs to, and closes the parts that are not their own assembly.
 
-ghost use Rattle.layers.specs.Assemblies.{AssemblyTold, TwiceAsOnce, assembly_fault, assembly_means, assembly_of, own_table, right_entry, settled, wrong_part};
+ghost use Rattle.layers.specs.Assemblies.{AssemblyTold, TwiceAsOnce, assembly_fault, assembly_means, assembly_of, own_table, right_entry, settled, wrong_part, wrong_place};
+ghost use Rattle.books.specs.Meanings.{is_part};
 ghost use Rattle.refusals.specs.Faults.{passed};
-ghost use Rattle.std.specs.Prelude.{◌≡◌, false, length, is_some};
+ghost use Rattle.std.specs.Option.{IfSome};
+ghost use Rattle.std.specs.Prelude.{◌≡◌, ◌<◌, false, length, is_some};
 ghost use Rattle.layers.specs.Soundness.{assembly_sound};
 
 use crate::faults::AssemblyFault;
 use books::book::Book;
 use books::faults::BookFault;
 use books::shown::Shown;
-use books::table::{amend_fault, enter_fault, withdraw_fault};
+use books::table::{check_amend, check_enter, check_withdraw};
 use readings::kinds::Reading;
+use std::array::from_fn;
 
 #[cfg(test)]
 mod tests;
@@ -25,108 +28,83 @@ pub struct Assembly<B> {
 }
 
 // Is every entry right? The fault names the lowest part whose entry is wrong.
+#[tactic(auto, using(crate::specs::Entries::assembly_told))]
 pub fn check(table: &[u8; 250]) -> Result<(), AssemblyFault>
     ensures answer { result ≡ passed (assembly_fault table.now) }
-    ensures told { AssemblyTold table.now result }
+    ensures told { AssemblyTold table.now (passed (assembly_fault table.now)) }
 {
-    check_table(table)
-}
-
-fn check_table(table: &[u8; 250]) -> Result<(), AssemblyFault>
-    ensures answer { result ≡ passed (assembly_fault table.now) }
-    ensures told { AssemblyTold table.now result }
-{
-    check_entries(table)
-}
-
-fn check_entries(table: &[u8; 250]) -> Result<(), AssemblyFault>
-    ensures { result ≡ passed (assembly_fault table.now) }
-{
-    match wrong_part(table) {
-        Some(part) => Err(AssemblyFault::Wrong(part)),
+    match wrong_place(table) {
+        Some(place) => Err(AssemblyFault::Wrong(place as u8 + 1)),
         None => Ok(()),
     }
 }
 
-fn wrong_part(table: &[u8; 250]) -> Option<u8>
-    ensures { result ≡ wrong_part table.now }
+// The place of the first wrong entry, from 0. On its own, since a chain is proved without a proof file only as a function's whole body.
+fn wrong_place(table: &[u8; 250]) -> Option<usize>
+    ensures place { result ≡ wrong_place table.now }
+    ensures within { IfSome result (λ place. place < 250) }
 {
-    let mut part = 1;
-    for assembly in table {
-        if !right_entry(table, *assembly) {
-            return Some(part);
-        }
-        part += 1;
-    }
-    None
+    table.iter().position(|entry| !right_entry(table, *entry))
 }
 
 fn right_entry(table: &[u8; 250], entry: u8) -> bool
     ensures { result ≡ right_entry table.now entry }
 {
-    entry >= 1 && entry <= 250 && assembly_of(table, entry) == entry
+    is_part(entry) && assembly_of(table, entry) == entry
 }
 
 // The assembly of a part.
 fn assembly_of(table: &[u8; 250], part: u8) -> u8
     ensures { result ≡ assembly_of table.now part }
 {
-    if part >= 1 && part <= 250 {
-        table[(part - 1) as usize]
+    if is_part(part) {
+        table[usize::from(part - 1)]
     } else {
         part
     }
 }
 
-// The table in which each part is its own assembly.
-fn own_table() -> [u8; 250]
-    ensures each { result ≡ own_table }
-    ensures right { is_some (wrong_part result) ≡ false }
+fn is_part(number: u8) -> bool
+    ensures { result ≡ is_part number }
 {
-    let mut table = [0u8; 250];
-    for i in 0..250 {
-        table[i] = i as u8 + 1;
-    }
-    table
+    (1..=250).contains(&number)
 }
 
-// The table as given where the check passes it, else the one in which each part is its own assembly.
-fn settle(table: [u8; 250]) -> [u8; 250]
-    ensures table { result ≡ settled table }
-    ensures right { is_some (wrong_part result) ≡ false }
+// The table in which each part is its own assembly.
+fn own_table() -> [u8; 250]
+    ensures { result ≡ own_table }
 {
-    match wrong_part(&table) {
-        Some(_) => own_table(),
-        None => table,
-    }
+    from_fn(|place| place as u8 + 1)
 }
 
 impl<B: Shown> Assembly<B> {
     // An assembly by this table; from what the check refuses, an assembly without effect.
+    #[tactic(auto, using(crate::specs::Entries::own_right, crate::proofs::Table::passes, crate::proofs::Table::refuses))]
     pub fn new(below: B, table: [u8; 250]) -> Assembly<B>
         ensures below { result.below ≡ below }
         ensures table { result.table ≡ settled table }
     {
-        let table = settle(table);
+        if check(&table).is_err() {
+            return Assembly {
+                below,
+                table: own_table(),
+            };
+        }
         Assembly { below, table }
     }
 
     // The same table laid over once more: it means the same as once.
+    #[tactic(auto, using(crate::proofs::Twice::same_assembly))]
     pub fn again(self) -> Assembly<Assembly<B>>
         ensures over { (result.below ≡ self) × (result.table ≡ self.table) }
         ensures same { TwiceAsOnce result.table (B.Shown.means result.below.below) }
     {
-        lay_again(self)
+        let table = self.table;
+        Assembly { below: self, table }
     }
 }
 
-fn lay_again<B>(one: Assembly<B>) -> Assembly<Assembly<B>>
-    ensures { (result.below ≡ one) × (result.table ≡ one.table) }
-{
-    let table = one.table;
-    Assembly { below: one, table }
-}
-
+// What it passes on, and its changes, stand here as in the bar, which says why.
 impl<B: Shown> Shown for Assembly<B> {
     type Reading = B::Reading;
 
@@ -142,6 +120,7 @@ impl<B: Shown> Shown for Assembly<B> {
         self.below.capacity()
     }
 
+    #[tactic(auto, using(crate::proofs::Asked::held_told))]
     fn held(&self) -> u32 {
         self.below.held()
     }
@@ -154,17 +133,19 @@ impl<B: Shown> Shown for Assembly<B> {
         assembly_of(&self.table, part) != part || self.below.closed_part(part)
     }
 
+    #[tactic(auto, using(crate::proofs::Asked::next_told))]
     fn next_tag(&self, above: u16) -> Option<u16> {
         self.below.next_tag(above)
     }
 
+    #[tactic(auto, using(crate::proofs::Asked::assembly_part_told))]
     fn part(&self, tag: u16) -> Option<u8> {
-        match self.below.part(tag) {
-            Some(part) => Some(assembly_of(&self.table, part)),
-            None => None,
-        }
+        self.below
+            .part(tag)
+            .map(|part| assembly_of(&self.table, part))
     }
 
+    #[tactic(auto, using(crate::proofs::Asked::assembly_reading))]
     fn reading(&self, tag: u16, test: u32) -> Option<B::Reading> {
         self.below.reading(tag, test)
     }
@@ -174,23 +155,17 @@ impl<B: Book> Book for Assembly<B> {
     ghost rewrites = { λ b c d. B.Book.rewrites b.below c d.below × (d.table ≡ b.table) };
 
     fn enter(&mut self, tag: u16, part: u8, readings: &[B::Reading]) -> Result<(), BookFault> {
-        if let Some(fault) = enter_fault(self, tag, part, readings) {
-            return Err(fault);
-        }
+        check_enter(self, tag, part, readings)?;
         self.below.enter(tag, part, readings)
     }
 
     fn withdraw(&mut self, tag: u16) -> Result<(), BookFault> {
-        if let Some(fault) = withdraw_fault(self, tag) {
-            return Err(fault);
-        }
+        check_withdraw(self, tag)?;
         self.below.withdraw(tag)
     }
 
     fn amend(&mut self, tag: u16, test: u32, reading: B::Reading) -> Result<(), BookFault> {
-        if let Some(fault) = amend_fault(self, tag, test, reading) {
-            return Err(fault);
-        }
+        check_amend(self, tag, test, reading)?;
         self.below.amend(tag, test, reading)
     }
 }

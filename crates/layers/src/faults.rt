@@ -1,8 +1,9 @@
 // The faults that the checks of the layers find.
 
 ghost use Rattle.layers.specs.Lines.{assembly_line, bar_line};
+ghost use Rattle.std.specs.Prelude.{◌≡◌};
 
-use refusals::{Fault, Origin, Place, Refusal};
+use refusals::{Origin, Refusal};
 
 // A set of tests that no bar can have over this book.
 #[derive(Clone, Copy, PartialEq, Eq, Debug)]
@@ -18,34 +19,22 @@ pub enum AssemblyFault {
     Wrong(u8),
 }
 
-impl Fault for BarFault {
-    ghost line = { bar_line };
+// The fault's line of the refusal table.
+impl From<BarFault> for Refusal {
+    ghost from_gives = { λ fault r. r ≡ bar_line fault };
 
-    fn refusal(&self) -> Refusal {
-        match self {
-            BarFault::Outside(test) => {
-                Refusal {
-                    number: 8,
-                    origin: Origin::Bar,
-                    place: Place::At(*test as u64),
-                }
-            }
-        }
+    fn from(fault: BarFault) -> Refusal {
+        let BarFault::Outside(test) = fault;
+        Refusal::at(8, Origin::Bar, test.into())
     }
 }
 
-impl Fault for AssemblyFault {
-    ghost line = { assembly_line };
+// The fault's line of the refusal table.
+impl From<AssemblyFault> for Refusal {
+    ghost from_gives = { λ fault r. r ≡ assembly_line fault };
 
-    fn refusal(&self) -> Refusal {
-        match self {
-            AssemblyFault::Wrong(part) => {
-                Refusal {
-                    number: 15,
-                    origin: Origin::Assembly,
-                    place: Place::At(*part as u64),
-                }
-            }
-        }
+    fn from(fault: AssemblyFault) -> Refusal {
+        let AssemblyFault::Wrong(part) = fault;
+        Refusal::at(15, Origin::Assembly, part.into())
     }
 }

@@ -13,10 +13,7 @@ use Rattle.std.proofs.lemmas.Bool.{cases_lt, cases_eq, cond-false, cond-true, le
 use Rattle.std.specs.List.{AllByRecursion as Every}
 
 pub no_some : {A : Type 0} (x : A) → ◌≡◌ {A = Option A} None (Some x) → ⊥
-no_some x e = let z : ◌≡◌ {A = ℕ} 0 1 = cc in clash z
-  where
-    clash : ◌≡◌ {A = ℕ} 0 1 → ⊥
-    clash q = omega arith
+no_some x e = cc
 
 module _ {R : Type 0} where
   above_here : (a : ℕ) (x : Rec R) (xs : List (Rec R)) → a < x.tag → above a (x ∷ xs) ≡ x ∷ above a xs

@@ -1,4 +1,5 @@
-// The core of a book: the tests that alone tell some two held records of different parts apart.
+// The core of a book: the tests that alone tell some two held records of different parts apart, found by walking held tags by the
+// Option of the next tag, a rule of the project.
 
 ghost use Rattle.std.specs.Prelude.{◌≡◌, ℕ, ◌↔◌};
 ghost use Rattle.books.specs.Questions.{find};
@@ -12,7 +13,7 @@ ghost use Rattle.sets.specs.Sets.{Has};
 use crate::pairs::{differ, row_of};
 use books::shown::Shown;
 use readings::kinds::Reading;
-use sets::single;
+use sets::{EMPTY, single};
 
 // The set of tests that alone tell some two held records of different parts apart; wherever there is a plan, the tests common
 // to all plans.
@@ -24,15 +25,16 @@ pub fn core<B: Shown>(book: &B) -> u32
     alone_in(book)
 }
 
+// Apart from the call above so that a wrong call there is refused by a fact, and not by this proof.
 fn alone_in<B: Shown>(book: &B) -> u32
     ensures answer { result ≡ core_of (matrix_of B.Reading.Reading.kind (B.Shown.means book.now).held) }
     ensures alone { (j : ℕ) → Has j result ↔ Alone B.Reading.Reading.kind (B.Shown.means book.now).held j }
     ensures common { Common (matrix_of B.Reading.Reading.kind (B.Shown.means book.now).held) result }
 {
-    let mut alone = 0;
+    let mut alone = EMPTY;
     let mut last = 0;
     while let Some(tag) = book.next_tag(last) {
-        alone = alone | alone_above(book, tag);
+        alone |= alone_above(book, tag);
         last = tag;
     }
     alone
@@ -42,11 +44,11 @@ fn alone_in<B: Shown>(book: &B) -> u32
 fn alone_above<B: Shown>(book: &B, tag: u16) -> u32
     ensures { result ≡ core_of (rows_of B.Reading.Reading.kind (above tag (B.Shown.means book.now).held) (find tag (B.Shown.means book.now).held)) }
 {
-    let mut alone = 0;
+    let mut alone = EMPTY;
     let mut last = tag;
     while let Some(other) = book.next_tag(last) {
         if differ(book, tag, other) {
-            alone = alone | single(row_of(book, tag, other));
+            alone |= single(row_of(book, tag, other));
         }
         last = other;
     }

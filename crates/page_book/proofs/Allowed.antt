@@ -23,7 +23,7 @@ module _ (page : List ℕ) (width : ℕ) (v : valid page width ≡ true) where
   some_found tag h e =
       let q = ap is_some (find_places page width (valid_formed page width v) tag ∙ ap (option_map (record_at page width)) e) in
       let f : true ≡ false = sym h ∙ q in
-      let z : ◌≡◌ {A = ℕ} 0 1 = cc in omega arith
+      cc
 
   -- a tag that is held stands on the page
   held_by : (tag : ℕ) → not_held (page_meaning page width) tag ≡ None → place_of page tag ≢ None
@@ -48,7 +48,7 @@ module _ (page : List ℕ) (width : ℕ) (v : valid page width ≡ true) where
       go (Some k) e =
           let q = ap is_some (find_places page width (valid_formed page width v) tag ∙ ap (option_map (record_at page width)) e) in
           let f : true ≡ false = sym q ∙ h in
-          let z : ◌≡◌ {A = ℕ} 0 1 = cc in absurd (omega arith)
+          cc
 
   pub enter_allowed : (tag part : ℕ) (readings : List ℕ) → refused codes (page_meaning page width) (enter tag part readings) ≡ None
       → (tag ≢ 0) × (1 ≤ part) × (part ≤ 250) × (length readings ≡ width) × (place_of page tag ≡ None) × (length (gathered (places page width)) ≢ records_in page)
@@ -96,5 +96,5 @@ module _ (page : List ℕ) (width : ℕ) (v : valid page width ≡ true) where
       zero_by k e =
           elim (cases_eq (tag_at page k) 0) [
             | inl s ↦ s
-            | inr d ↦ (let q = sym e ∙ place_used page width k d in let z : ◌≡◌ {A = ℕ} 0 1 = cc in absurd (omega arith))
+            | inr d ↦ (let q = sym e ∙ place_used page width k d in cc)
           ]

@@ -1,5 +1,5 @@
 -- A record entered in a free one: the page is valid, and means what the change says.
-use Rattle.std.proofs.Common.{◌≡◌, ℕ, ◌+◌, ◌-◌, ◌<◌, ◌≤◌, true, ◌≢◌, List, length, get_or, set, Some, None, sym, refl, ap, ◌∙◌, arith}
+use Rattle.std.proofs.Common.{◌≡◌, ℕ, ◌+◌, ◌-◌, ◌<◌, ◌≤◌, true, ◌≢◌, List, length, get_or, set, Some, None, sym, ap, ◌∙◌, arith}
 use Rattle.books.proofs.Gathering.{gathered_enter}
 use Rattle.books.specs.Changes.{after, enter, held_after, insert}
 use Rattle.books.specs.Gathered.{gathered, standing}
@@ -18,9 +18,6 @@ use Rattle.std.proofs.lemmas.Bool.Decides.{nat_tests}
 module _ (tag part : ℕ) (readings : List ℕ) where
   at_code : (b : ℕ) → 4 ≤ b → b < 28 → entered_byte tag part readings b ≡ get_or readings (b - 4) 255
   at_code b l m = grind (arith, nat_tests)
-
-  at_zero : entered_byte tag part readings 3 ≡ 0
-  at_zero = refl
 
   at_tail : (b : ℕ) → 28 ≤ b → entered_byte tag part readings b ≡ 0
   at_tail b l = grind (arith, nat_tests)

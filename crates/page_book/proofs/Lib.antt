@@ -1,11 +1,9 @@
-pub mod Digits
-pub mod Matrix
-pub mod Words
 pub mod Asked
+pub mod Records
 pub mod Rewriting
 pub mod Amending
 pub mod Allowed
 pub mod Writing
 pub mod Withdrawing
 pub mod Entering
-pub mod Returned
+pub mod Changing

@@ -1,5 +1,5 @@
 -- What each answer of the check tells: from the computed answer to the words of the layout, and back.
-use Rattle.std.proofs.Common.{◌≡◌, ℕ, ◌%◌, Bool, true, false, ◌&&◌, eqb, leb, ◌⊎◌, List, length, Some, None, Ok, Err, Option, Result, sym, refl, ap, ◌∙◌, inl, inr, arith}
+use Rattle.std.proofs.Common.{◌≡◌, ℕ, ◌%◌, Bool, true, false, ◌&&◌, eqb, leb, ◌⊎◌, List, length, Some, None, Ok, Err, Option, Result, sym, refl, ap, ◌∙◌, inl, inr}
 use Rattle.books.specs.declared.faults.BookFault.TheVariants.{InPage, Size, Width}
 use Rattle.books.specs.declared.faults.BookFault.{BookFault}
 use Rattle.books.specs.declared.faults.PageFault.TheVariants.{Layout, Twice}
@@ -32,7 +32,7 @@ by_size page h =
 -- one of the two
 decided : (t : Bool) (P : Type 0) → (t ≡ true → P) → (P → t ≡ true) → P ⊎ (P → ⊥)
 decided true P to from = inl (to refl)
-decided false P to from = inr (λ p. let e = from p in let z : ◌≡◌ {A = ℕ} 0 1 = cc in omega arith)
+decided false P to from = inr (λ p. let e = from p in cc)
 
 false_from : (t : Bool) (P : Type 0) → (t ≡ true → P) → (P → ⊥) → t ≡ false
 false_from true P to n = absurd (n (to refl))
@@ -40,26 +40,26 @@ false_from false P to n = refl
 
 -- a page's fault is a book's of its own kind
 page_none : (o : Option PageFault) → in_page o ≡ None → o ≡ None
-page_none (Some f) h = let z : ◌≡◌ {A = ℕ} 0 1 = cc in absurd (omega arith)
+page_none (Some f) h = cc
 page_none None h = refl
 
 page_some : (o : Option PageFault) (f : PageFault) → in_page o ≡ Some (InPage f) → o ≡ Some f
 page_some (Some g) f h = (cc)
-page_some None f h = let z : ◌≡◌ {A = ℕ} 0 1 = cc in absurd (omega arith)
+page_some None f h = cc
 
 page_no_misfit : (o : Option PageFault) → (in_page o ≡ Some Width → ⊥) × (in_page o ≡ Some Size → ⊥)
 page_no_misfit (Some g) =
-    ((λ h. let z : ◌≡◌ {A = ℕ} 0 1 = cc in omega arith), (λ h. let z : ◌≡◌ {A = ℕ} 0 1 = cc in omega arith))
+    ((λ h. cc), (λ h. cc))
 page_no_misfit None =
-    ((λ h. let z : ◌≡◌ {A = ℕ} 0 1 = cc in omega arith), (λ h. let z : ◌≡◌ {A = ℕ} 0 1 = cc in omega arith))
+    ((λ h. cc), (λ h. cc))
 
 -- what was answered, from the answer
 pub err_by : (o : Option BookFault) (f : BookFault) → passed o ≡ Err f → o ≡ Some f
 err_by (Some g) f h = (cc)
-err_by None f h = let z : ◌≡◌ {A = ℕ} 0 1 = cc in absurd (omega arith)
+err_by None f h = cc
 
 pub ok_by : (o : Option BookFault) → passed o ≡ Ok tt → o ≡ None
-ok_by (Some g) h = let z : ◌≡◌ {A = ℕ} 0 1 = cc in absurd (omega arith)
+ok_by (Some g) h = cc
 ok_by None h = refl
 
 module _ (page : List ℕ) (width : ℕ) where
@@ -92,14 +92,14 @@ module _ (page : List ℕ) (width : ℕ) where
   width_told h w =
       elim ways [
         | inl n ↦ n w
-        | inr (inl p) ↦ (let e = misfit_size p.0 p.1 in let z : ◌≡◌ {A = ℕ} 0 1 = cc in omega arith)
+        | inr (inl p) ↦ (let e = misfit_size p.0 p.1 in cc)
         | inr (inr p) ↦ (page_no_misfit (page_fault page width)).0 (sym (fits p.0 p.1) ∙ h)
       ]
 
   size_told : refused_page page width ≡ Some Size → InWidth width × (InSize page → ⊥)
   size_told h =
       elim ways [
-        | inl n ↦ (let e = misfit_width n in let z : ◌≡◌ {A = ℕ} 0 1 = cc in absurd (omega arith))
+        | inl n ↦ (let e = misfit_width n in cc)
         | inr (inl p) ↦ p
         | inr (inr p) ↦ absurd ((page_no_misfit (page_fault page width)).1 (sym (fits p.0 p.1) ∙ h))
       ]
@@ -107,16 +107,16 @@ module _ (page : List ℕ) (width : ℕ) where
   page_told : (f : PageFault) → refused_page page width ≡ Some (InPage f) → InWidth width × InSize page × (page_fault page width ≡ Some f)
   page_told f h =
       elim ways [
-        | inl n ↦ (let e = misfit_width n in let z : ◌≡◌ {A = ℕ} 0 1 = cc in absurd (omega arith))
-        | inr (inl p) ↦ (let e = misfit_size p.0 p.1 in let z : ◌≡◌ {A = ℕ} 0 1 = cc in absurd (omega arith))
+        | inl n ↦ (let e = misfit_width n in cc)
+        | inr (inl p) ↦ (let e = misfit_size p.0 p.1 in cc)
         | inr (inr p) ↦ (p.0, p.1, page_some (page_fault page width) f (sym (fits p.0 p.1) ∙ h))
       ]
 
   fine_told : refused_page page width ≡ None → InWidth width × InSize page × (page_fault page width ≡ None)
   fine_told h =
       elim ways [
-        | inl n ↦ (let e = misfit_width n in let z : ◌≡◌ {A = ℕ} 0 1 = cc in absurd (omega arith))
-        | inr (inl p) ↦ (let e = misfit_size p.0 p.1 in let z : ◌≡◌ {A = ℕ} 0 1 = cc in absurd (omega arith))
+        | inl n ↦ (let e = misfit_width n in cc)
+        | inr (inl p) ↦ (let e = misfit_size p.0 p.1 in cc)
         | inr (inr p) ↦ (p.0, p.1, page_none (page_fault page width) (sym (fits p.0 p.1) ∙ h))
       ]
 
@@ -166,16 +166,22 @@ module _ (page : List ℕ) (width : ℕ) where
   -- the four clauses
   module _ (r : Result (Unit {0}) BookFault) (e : r ≡ passed (refused_page page width)) where
     pub accepted : Accepted page width r
+    unfolding Accepted
     accepted = ((λ h. well_formed (ok_by _ (sym e ∙ h))), (λ w. e ∙ ap passed (by_well_formed w)))
 
     pub misfit : Misfit page width r
+    unfolding Misfit
     misfit = (
       ((λ h. width_told (err_by _ _ (sym e ∙ h))), (λ n. e ∙ ap passed (misfit_width n))),
       ((λ h. size_told (err_by _ _ (sym e ∙ h))), (λ p. e ∙ ap passed (misfit_size p.0 p.1))),
     )
 
     pub against_layout : AgainstLayout page width r
+    unfolding AgainstLayout
     against_layout k b = ((λ h. against k b (err_by _ _ (sym e ∙ h))), (λ w. e ∙ ap passed (by_against k b w)))
 
     pub tag_twice : TagTwice page width r
+    unfolding TagTwice
     tag_twice k = ((λ h. doubled k (err_by _ _ (sym e ∙ h))), (λ w. e ∙ ap passed (by_doubled k w)))
+
+pub ruleset clauses = (accepted, misfit, against_layout, tag_twice)

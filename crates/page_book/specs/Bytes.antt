@@ -1,5 +1,5 @@
 -- A byte of a record: the test says what the layout says, and gives the byte where it is wrong.
-use Rattle.std.proofs.Common.{◌≡◌, ℕ, true, false, List, Some, None, inl, inr, arith}
+use Rattle.std.proofs.Common.{◌≡◌, ℕ, true, List, Some, None, inl, inr, arith}
 use Rattle.page_book.specs.LowestFacts.{false_by, true_by, when_false, when_true}
 use Rattle.page_book.specs.Layout.{Right, RightByte, byte_at, tag_at}
 use Rattle.page_book.specs.Refused.{right_byte, wrong_at}
@@ -14,14 +14,6 @@ right_by tag width b v h =
 -- a right byte passes the test
 pub by_right : (tag width b v : ℕ) → Right tag width b v → right_byte tag width b v ≡ true
 by_right tag width b v h = grind (arith, nat_tests)
-
--- a byte found right, and one found wrong
-module _ (page : List ℕ) (width k b tag v : ℕ) (t : tag ≡ tag_at page k) (e : v ≡ byte_at page k b) where
-  pub found_right : true ≡ right_byte tag width b v → wrong_at page width k b ≡ None
-  found_right h = when_false _ b (not_from_true (right_byte (tag_at page k) width b (byte_at page k b)) (cc))
-
-  pub found_wrong : false ≡ right_byte tag width b v → wrong_at page width k b ≡ Some b
-  found_wrong h = when_true _ b (not_from_false (right_byte (tag_at page k) width b (byte_at page k b)) (cc))
 
 -- what that says of the byte, and the other way round
 module _ (page : List ℕ) (width k b : ℕ) where

@@ -1,9 +1,14 @@
 -- A page: records of 32 bytes one after another, from record 0. Each byte is a number below 256.
-use Rattle.std.specs.Prelude.{◌≡◌, ℕ, ◌+◌, ◌*◌, ◌/◌, ◌%◌, ◌<◌, ◌≤◌, List, length, ◌≢◌, slice_index}
+use Rattle.std.specs.Prelude.{◌≡◌, ℕ, ◌+◌, ◌*◌, ◌/◌, ◌%◌, ◌<◌, ◌≤◌, List, length, Bool, not, ◌==◌, ◌≢◌, slice_index}
+use Rattle.std.specs.Simd.{first_chunks}
 
 -- how many records the page has
 abbrev pub records_in : List ℕ → ℕ
 records_in page = length page / 32
+
+-- the records, each by its 32 bytes: a page of one record
+abbrev pub records_of : List ℕ → List (List ℕ)
+records_of page = first_chunks 32 (records_in page) page
 
 -- byte b of record k
 abbrev pub byte_at : List ℕ → ℕ → ℕ → ℕ
@@ -12,6 +17,13 @@ byte_at page k b = slice_index page (32 * k + b)
 -- the tag of record k, low byte first; 0: the record is free
 abbrev pub tag_at : List ℕ → ℕ → ℕ
 tag_at page k = byte_at page k 0 + 256 * byte_at page k 1
+
+-- whether a record by itself has this tag, and whether it is in use
+abbrev pub has_tag : ℕ → List ℕ → Bool
+has_tag tag bytes = tag_at bytes 0 == tag
+
+abbrev pub in_use : List ℕ → Bool
+in_use bytes = not (has_tag 0 bytes)
 
 -- the part that record k is of
 abbrev pub part_at : List ℕ → ℕ → ℕ

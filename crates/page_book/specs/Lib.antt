@@ -2,7 +2,6 @@ pub mod Layout
 pub mod Lowest
 pub mod Refused
 pub mod Told
-pub mod Rows
 pub mod Places
 pub mod Rewrites
 pub mod Kept

@@ -7,19 +7,19 @@ use Rattle.std.proofs.lemmas.Bool.{cases_order}
 -- what a test gives
 pub when_true : {A : Type 0} (t : Bool) (a : A) → t ≡ true → when t a ≡ Some a
 when_true true a h = refl
-when_true false a h = let z : ◌≡◌ {A = ℕ} 0 1 = cc in absurd (omega arith)
+when_true false a h = cc
 
 pub when_false : {A : Type 0} (t : Bool) (a : A) → t ≡ false → when t a ≡ None
-when_false true a h = let z : ◌≡◌ {A = ℕ} 0 1 = cc in absurd (omega arith)
+when_false true a h = cc
 when_false false a h = refl
 
 -- and what it was
 pub true_by : {A : Type 0} (t : Bool) (a b : A) → when t a ≡ Some b → (t ≡ true) × (a ≡ b)
 true_by true a b h = (refl, cc)
-true_by false a b h = let z : ◌≡◌ {A = ℕ} 0 1 = cc in absurd (omega arith)
+true_by false a b h = cc
 
 pub false_by : {A : Type 0} (t : Bool) (a : A) → when t a ≡ None → t ≡ false
-false_by true a h = let z : ◌≡◌ {A = ℕ} 0 1 = cc in absurd (omega arith)
+false_by true a h = cc
 false_by false a h = refl
 
 -- the answer names n, which is where it was found
@@ -28,7 +28,7 @@ named f g n k r e h = ap (λ m. g (f m)) e ∙ sym (ap g h)
 
 -- neither is there
 pub or_none : {A : Type 0} (x y : Option A) → or_else x y ≡ None → (x ≡ None) × (y ≡ None)
-or_none (Some a) y h = let z : ◌≡◌ {A = ℕ} 0 1 = cc in absurd (omega arith)
+or_none (Some a) y h = cc
 or_none None y h = (refl, h)
 
 -- one of the two is there, the second only where the first is not
@@ -79,7 +79,7 @@ module _ {A : Type 0} (f : ℕ → Option A) where
   -- what is found stands at some number, and nothing below it
   pub found_at : (n : ℕ) (a : A) → lowest f n ≡ Some a → (k : ℕ) × (k < n) × (f k ≡ Some a) × (lowest f k ≡ None)
   unfolding lowest
-  found_at zero a h = let z : ◌≡◌ {A = ℕ} 0 1 = cc in absurd (omega arith)
+  found_at zero a h = cc
   found_at (suc n) a h =
       elim (or_some (lowest f n) (f n) a h) [
         | inl low ↦ (let p = found_at n a low in (p.0, omega arith, p.2, p.3))

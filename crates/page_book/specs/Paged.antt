@@ -1,5 +1,5 @@
 -- A page's records as places: each by its number, found by tag, and sound as a book.
-use Rattle.std.proofs.Common.{◌≡◌, ℕ, suc, ◌+◌, ◌*◌, ◌<◌, ◌≤◌, true, false, eqb, leb, ◌≢◌, List, [], ◌∷◌, length, get_or, IfSome, Some, None, Option, sym, refl, ap, ◌∙◌, subst, inl, inr, arith}
+use Rattle.std.proofs.Common.{◌≡◌, ℕ, suc, ◌+◌, ◌*◌, ◌<◌, true, false, eqb, leb, ◌≢◌, List, [], ◌∷◌, length, get_or, Some, None, Option, sym, refl, ap, ◌∙◌, subst, inl, inr, arith}
 use Rattle.books.proofs.Gathering.{Of, gathered_all, gathered_find, gathered_length, gathered_rising, occupied_few}
 use Rattle.books.specs.Gathered.{Distinct, gathered, standing}
 use Rattle.books.specs.Meanings.{BlankFrom, Fits, Rec, Sound}
@@ -7,12 +7,15 @@ use Rattle.books.specs.Questions.{find}
 use Rattle.page_book.specs.LowestFacts.{false_by, found_at, none_below, true_by}
 use Rattle.page_book.specs.Standing.{Off, distinct_from, standing_first, standing_none}
 use Rattle.page_book.specs.Valid.{valid_byte, valid_formed}
-use Rattle.page_book.specs.Kept.{no_room}
+use Rattle.page_book.specs.Kept.{no_room, opened_meaning}
 use Rattle.page_book.specs.Layout.{WellFormed, code_at, part_at, records_in, tag_at}
 use Rattle.page_book.specs.Lowest.{lowest}
 use Rattle.page_book.specs.Places.{codes_at, page_meaning, place_at, place_of, places, record_at, valid}
-use Rattle.page_book.specs.Refused.{same_tag}
+use Rattle.page_book.specs.Refused.{refused_page, same_tag}
 use Rattle.readings.specs.Codes.{codes}
+use Rattle.refusals.specs.Faults.{leaves, passed}
+use Rattle.books.specs.declared.faults.BookFault.{BookFault}
+use Rattle.std.specs.Prelude.{is_err}
 use Rattle.std.proofs.lemmas.List.FromFn.{get_or-map-range_with_len, length-map-range_with_len}
 use Rattle.std.proofs.ByRecursion.{All-from_get_or}
 use Rattle.std.proofs.lemmas.Bool.{and_from, cases_eq, cond-false, cond-true, eq-eqb, eqb-false, eqb-true, le-leb, ne_eqb}
@@ -57,7 +60,7 @@ module _ (page : List ℕ) (width : ℕ) where
   pub place_some : (k : ℕ) (x : Rec ℕ) → place_at page width k ≡ Some x → (tag_at page k ≢ 0) × (record_at page width k ≡ x)
   place_some k x h =
       elim (cases_eq (tag_at page k) 0) [
-        | inl e ↦ (let q = sym (place_free k e) ∙ h in let z : ◌≡◌ {A = ℕ} 0 1 = cc in absurd (omega arith))
+        | inl e ↦ (let q = sym (place_free k e) ∙ h in cc)
         | inr n ↦ (n, (let q = sym (place_used k n) ∙ h in cc))
       ]
 
@@ -77,7 +80,7 @@ module _ (page : List ℕ) (width : ℕ) where
   unfolding place_of
   place_found tag k h =
       elim (cases_eq tag 0) [
-        | inl e ↦ (let q = sym (cond-true (eqb tag 0) None (lowest (same_tag page tag) (records_in page)) (eq-eqb tag 0 e)) ∙ h in let z : ◌≡◌ {A = ℕ} 0 1 = cc in absurd (omega arith))
+        | inl e ↦ (let q = sym (cond-true (eqb tag 0) None (lowest (same_tag page tag) (records_in page)) (eq-eqb tag 0 e)) ∙ h in cc)
         | inr n ↦
             (let q = sym (cond-false (eqb tag 0) None (lowest (same_tag page tag) (records_in page)) (ne_eqb tag 0 n)) ∙ h in
             let p = found_at (same_tag page tag) (records_in page) k q in
@@ -104,10 +107,6 @@ module _ (page : List ℕ) (width : ℕ) where
   unfolding place_of
   place_lowest tag n = cond-false (eqb tag 0) None (lowest (same_tag page tag) (records_in page)) (ne_eqb tag 0 n)
 
-  pub place_inside : (tag : ℕ) (o : Option ℕ) → o ≡ place_of page tag → IfSome o (λ k. 32 * k + 32 ≤ length page)
-  place_inside tag None e = tt
-  place_inside tag (Some k) e = omega (arith, (place_found tag k (sym e)).1)
-
   pub find_places : WellFormed page width → (tag : ℕ) → find tag (gathered (places page width)) ≡ option_map (record_at page width) (place_of page tag)
   find_places w tag = gathered_find tag (places page width) (distinct_places w) ∙ go (place_of page tag) refl
     where
@@ -130,7 +129,7 @@ module _ (page : List ℕ) (width : ℕ) where
 
   open_blank : (n : ℕ) (xs : List ℕ) → BlankFrom codes (λ _. false) n xs
   open_blank n [] = tt
-  open_blank n (x ∷ xs) = ((λ e. let z : ◌≡◌ {A = ℕ} 0 1 = cc in absurd (omega arith)), open_blank (suc n) xs)
+  open_blank n (x ∷ xs) = ((λ e. cc), open_blank (suc n) xs)
 
   record_fits : valid page width ≡ true → (k : ℕ) → k < records_in page → tag_at page k ≢ 0 → Fits codes width (λ _. false) (record_at page width k)
   record_fits v k l n =
@@ -149,8 +148,8 @@ module _ (page : List ℕ) (width : ℕ) where
         wide = w.0;
         roomy = omega (arith, w.1.0);
         fitting = omega (arith, gathered_length (places page width), occupied_few (places page width), length_places);
-        tests = λ t e. let z : ◌≡◌ {A = ℕ} 0 1 = cc in absurd (omega arith);
-        parts = λ t e. let z : ◌≡◌ {A = ℕ} 0 1 = cc in absurd (omega arith);
+        tests = λ t e. cc;
+        parts = λ t e. cc;
         rising = gathered_rising (places page width) (distinct_places w);
         records =
             gathered_all (Fits codes width (λ _. false)) (places page width)
@@ -162,3 +161,11 @@ module _ (page : List ℕ) (width : ℕ) where
 pub empty_means : page_meaning [] 1 ≡ no_room
 unfolding places gathered
 empty_means = refl
+
+-- so does a page that the check refuses, opened
+pub opened_refused : (page : List ℕ) (width : ℕ) → is_err (passed (refused_page page width)) ≡ true → page_meaning [] 1 ≡ opened_meaning page width
+opened_refused page width h = empty_means ∙ sym (go (refused_page page width) h)
+  where
+    go : (o : Option BookFault) → is_err (passed o) ≡ true → leaves o no_room (page_meaning page width) ≡ no_room
+    go (Some fault) e = refl
+    go None e = cc

@@ -1,8 +1,8 @@
 -- A page as a book: each record is a place, empty where it is free.
-use Rattle.std.specs.Prelude.{ℕ, Bool, true, false, cond, not, ◌&&◌, List, [], ◌∷◌, map, is_some, Some, None, Option, ◌==◌, nat_lt}
+use Rattle.std.specs.Prelude.{ℕ, Bool, true, false, cond, not, ◌&&◌, List, [], ◌∷◌, find, map, is_some, Some, None, Option, ◌==◌, nat_lt}
 use Rattle.books.specs.Gathered.{gathered}
 use Rattle.books.specs.Meanings.{Meaning, Rec}
-use Rattle.page_book.specs.Layout.{code_at, part_at, records_in, tag_at}
+use Rattle.page_book.specs.Layout.{code_at, has_tag, part_at, records_in, records_of, tag_at}
 use Rattle.page_book.specs.Lowest.{lowest}
 use Rattle.page_book.specs.Refused.{refused_page, same_tag}
 use Rattle.std.specs.List.{range_with_len}
@@ -45,3 +45,7 @@ page_meaning page width = record {
 -- the record of a tag, where a record in use has it
 unfoldable pub place_of : List ℕ → ℕ → Option ℕ
 place_of page tag = cond (tag == 0) None (lowest (same_tag page tag) (records_in page))
+
+-- its bytes
+unfoldable pub record_of : List ℕ → ℕ → Option (List ℕ)
+record_of page tag = cond (tag == 0) None (find (has_tag tag) (records_of page))

@@ -24,7 +24,7 @@ module _ {R : Type 0} where
       → ((i : ℕ) → i < k → Off t (get_or ps i None)) → standing t ps ≡ Some x
   unfolding standing
   standing_first t [] k x e s h = e
-  standing_first t (None ∷ ps) zero x e s h = let z : ◌≡◌ {A = ℕ} 0 1 = cc in absurd (omega arith)
+  standing_first t (None ∷ ps) zero x e s h = cc
   standing_first t (Some y ∷ ps) zero x e s h =
       let same : y ≡ x = cc in
       cond-true (eqb y.tag t) (Some y) (standing t ps) (eq-eqb y.tag t (ap (λ (r : Rec R). r.tag) same ∙ s)) ∙ e
@@ -49,7 +49,3 @@ lower_assoc None b c = refl
 lower_assoc (Some x) None c = refl
 lower_assoc (Some x) (Some y) None = refl
 lower_assoc (Some x) (Some y) (Some z) = let e : min (min x y) z ≡ min x (min y z) = omega arith in ap Some e
-
-pub lower_none : (a : Option ℕ) → lower a None ≡ a
-lower_none None = refl
-lower_none (Some x) = refl

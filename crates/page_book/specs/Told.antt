@@ -27,21 +27,21 @@ TwiceFirst page width k =
     × ((i : ℕ) → i < k → StandsTwice page i → ⊥)
 
 -- accepted: a well formed page, and no other
-abbrev pub Accepted : List ℕ → ℕ → Result (Unit {0}) BookFault → Type 0
+unfoldable pub Accepted : List ℕ → ℕ → Result (Unit {0}) BookFault → Type 0
 Accepted page width r = Exactly (r ≡ Ok tt) (WellFormed page width)
 
 -- refused before any record is looked at: by the width, and if that is right, by the size
-abbrev pub Misfit : List ℕ → ℕ → Result (Unit {0}) BookFault → Type 0
+unfoldable pub Misfit : List ℕ → ℕ → Result (Unit {0}) BookFault → Type 0
 Misfit page width r =
     Exactly (r ≡ Err Width) (InWidth width → ⊥)
     × Exactly (r ≡ Err Size) (InWidth width × (InSize page → ⊥))
 
 -- refused by the layout: at the first wrong byte
-abbrev pub AgainstLayout : List ℕ → ℕ → Result (Unit {0}) BookFault → Type 0
+unfoldable pub AgainstLayout : List ℕ → ℕ → Result (Unit {0}) BookFault → Type 0
 AgainstLayout page width r =
     (k b : ℕ) → Exactly (r ≡ Err (InPage (Layout k b))) (InWidth width × InSize page × WrongFirst page width k b)
 
 -- refused by a tag: at the first record whose tag stands in an earlier one
-abbrev pub TagTwice : List ℕ → ℕ → Result (Unit {0}) BookFault → Type 0
+unfoldable pub TagTwice : List ℕ → ℕ → Result (Unit {0}) BookFault → Type 0
 TagTwice page width r =
     (k : ℕ) → Exactly (r ≡ Err (InPage (Twice k))) (InWidth width × InSize page × TwiceFirst page width k)

@@ -1,5 +1,5 @@
 -- Tags that stand twice: what the search of the earlier records finds, and the lowest such record of the page.
-use Rattle.std.proofs.Common.{◌≡◌, ℕ, ◌<◌, true, false, eqb, List, is_some, Some, None, Option, sym, refl, ◌∙◌, subst, inl, inr, arith}
+use Rattle.std.proofs.Common.{◌≡◌, ℕ, ◌<◌, true, false, eqb, List, is_some, Some, None, Option, sym, refl, ◌∙◌, subst, inl, inr}
 use Rattle.books.specs.declared.faults.PageFault.TheVariants.{Layout, Twice}
 use Rattle.page_book.specs.LowestFacts.{false_by, found_at, lowest_found, none_below, none_from_below, true_by, when_false, when_true}
 use Rattle.page_book.specs.Layout.{StandsTwice, records_in, tag_at}
@@ -29,10 +29,10 @@ First page k = (k < records_in page) × StandsTwice page k × ((i : ℕ) → i <
 
 some_by : (o : Option ℕ) → is_some o ≡ true → (i : ℕ) × (o ≡ Some i)
 some_by (Some i) h = (i, refl)
-some_by None h = let z : ◌≡◌ {A = ℕ} 0 1 = cc in absurd (omega arith)
+some_by None h = cc
 
 none_by : (o : Option ℕ) → is_some o ≡ false → o ≡ None
-none_by (Some i) h = let z : ◌≡◌ {A = ℕ} 0 1 = cc in absurd (omega arith)
+none_by (Some i) h = cc
 none_by None h = refl
 
 module _ (page : List ℕ) (k : ℕ) where
@@ -104,5 +104,4 @@ module _ (page : List ℕ) where
   twice_not_layout k b h =
       let p = found_at (twice_at page) (records_in page) (Layout k b) h in
       let q = true_by _ (Twice p.0) (Layout k b) p.2 in
-      let z : ◌≡◌ {A = ℕ} 0 1 = cc in
-      omega arith
+      cc

@@ -1,10 +1,11 @@
 -- A valid page: well formed, and every number on it a byte.
-use Rattle.std.proofs.Common.{◌≡◌, ℕ, zero, suc, ◌<◌, true, false, not, ltb, List, [], ◌∷◌, length, get_or, is_some, Some, None, Option, refl, ap, arith}
-use Rattle.page_book.specs.Answered.{by_well_formed, well_formed}
+use Rattle.std.proofs.Common.{◌≡◌, ℕ, zero, suc, ◌<◌, true, false, not, ltb, List, [], ◌∷◌, length, get_or, is_some, Some, None, Ok, Option, Fits, w8, refl, ap, arith}
+use Rattle.page_book.specs.Answered.{by_well_formed, ok_by, well_formed}
 use Rattle.page_book.specs.Layout.{WellFormed}
 use Rattle.page_book.specs.Places.{are_bytes, valid}
 use Rattle.page_book.specs.Lowest.{lowest}
 use Rattle.page_book.specs.Refused.{layout_fault, refused_page, twice_fault}
+use Rattle.refusals.specs.Faults.{passed}
 use Rattle.std.proofs.lemmas.Bool.{and_from, and_parts, lt-ltb, ltb-true, not-true}
 
 pub byte_at_lem : (xs : List ℕ) → are_bytes xs ≡ true → (i : ℕ) → get_or xs i 0 < 256
@@ -20,7 +21,7 @@ bytes_from (x ∷ xs) h = and_from (ltb x 256) (are_bytes xs) (lt-ltb x 256 (h 0
 
 none_from : {A : Type 0} (o : Option A) → is_some o ≡ false → o ≡ None
 none_from None h = refl
-none_from (Some x) h = let z : ◌≡◌ {A = ℕ} 0 1 = cc in absurd (omega arith)
+none_from (Some x) h = cc
 
 module _ (page : List ℕ) (width : ℕ) where
   pub valid_formed : valid page width ≡ true → WellFormed page width
@@ -42,6 +43,10 @@ module _ (page : List ℕ) (width : ℕ) where
 
   pub by_valid : WellFormed page width → ((i : ℕ) → get_or page i 0 < 256) → valid page width ≡ true
   by_valid w b = by_accepted (by_well_formed page width w) (bytes_from page (λ i l. b i))
+
+-- a page that the check accepts, in memory
+pub opened_valid : (page : List ℕ) (width : ℕ) → passed (refused_page page width) ≡ Ok tt → ((i : ℕ) → Fits w8 (get_or page i 0)) → valid page width ≡ true
+opened_valid page width h b = by_accepted page width (ok_by _ h) (bytes_from page (λ i l. (b i).fits))
 
 -- a page of no bytes
 pub valid_empty : valid [] 1 ≡ true

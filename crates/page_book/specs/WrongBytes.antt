@@ -1,5 +1,5 @@
 -- Records against the layout: the lowest wrong byte of a record, and the lowest wrong record of the page.
-use Rattle.std.proofs.Common.{◌≡◌, ℕ, ◌<◌, List, Some, None, Option, refl, ap, subst, arith}
+use Rattle.std.proofs.Common.{◌≡◌, ℕ, ◌<◌, List, Some, None, Option, refl, ap, subst}
 use Rattle.books.specs.declared.faults.PageFault.TheVariants.{Layout, Twice}
 use Rattle.page_book.specs.Bytes.{none_at, right_at, some_at, wrong_at_lem}
 use Rattle.page_book.specs.LowestFacts.{found_at, lowest_found, none_below, none_from_below}
@@ -38,16 +38,16 @@ module _ (page : List ℕ) (width k : ℕ) where
 
 -- a record's fault is that of its lowest wrong byte
 of_none : (k : ℕ) (o : Option ℕ) → layout_of k o ≡ None → o ≡ None
-of_none k (Some b) h = let z : ◌≡◌ {A = ℕ} 0 1 = cc in absurd (omega arith)
+of_none k (Some b) h = cc
 of_none k None h = refl
 
 of_some : (k : ℕ) (o : Option ℕ) (i b : ℕ) → layout_of k o ≡ Some (Layout i b) → (k ≡ i) × (o ≡ Some b)
 of_some k (Some c) i b h = (cc, cc)
-of_some k None i b h = let z : ◌≡◌ {A = ℕ} 0 1 = cc in absurd (omega arith)
+of_some k None i b h = cc
 
 of_twice : (k : ℕ) (o : Option ℕ) (i : ℕ) → layout_of k o ≡ Some (Twice i) → ⊥
-of_twice k (Some c) i h = let z : ◌≡◌ {A = ℕ} 0 1 = cc in omega arith
-of_twice k None i h = let z : ◌≡◌ {A = ℕ} 0 1 = cc in omega arith
+of_twice k (Some c) i h = cc
+of_twice k None i h = cc
 
 module _ (page : List ℕ) (width : ℕ) where
   -- no fault: every record is right

@@ -12,22 +12,13 @@ pub mod opened;
 // the changes
 pub mod changes;
 
-// one reading set
-mod amended;
-
-// a record taken out
-mod withdrawn;
-
-// a record put in
-mod entered;
-
 // the bytes of a record, written
 mod written;
 
 // A page that passes its check at this width, always.
 #[derive(Drop)]
 pub struct PageBook<'a> {
-    page: &'a mut [u8],
-    width: u32,
+    pub(crate) page: &'a mut [u8],
+    pub(crate) width: u32,
     ghost valid: { valid page.now width ≡ true },
 }

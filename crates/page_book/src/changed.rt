@@ -9,6 +9,7 @@ use books::book::Book;
 use books::faults::BookFault;
 
 // Enters a record: the lowest free record of the page gets its bytes.
+#[tactic(auto, using(crate::specs::Valid::opened_valid, crate::specs::Valid::valid_accepted))]
 pub fn enter_in(
     page: &mut [u8],
     width: u32,
@@ -18,17 +19,21 @@ pub fn enter_in(
 ) -> Result<(), BookFault>
     ensures { ChangedIn page.old width (enter tag part readings.now) page.new result }
 {
-    entered_in(page, width, tag, part, readings)
+    check(page, width)?;
+    PageBook { page, width }.enter(tag, part, readings)
 }
 
 // Withdraws the record of a tag: its bytes are zero.
+#[tactic(auto, using(crate::specs::Valid::opened_valid, crate::specs::Valid::valid_accepted))]
 pub fn withdraw_in(page: &mut [u8], width: u32, tag: u16) -> Result<(), BookFault>
     ensures { ChangedIn page.old width (withdraw tag) page.new result }
 {
-    withdrawn_in(page, width, tag)
+    check(page, width)?;
+    PageBook { page, width }.withdraw(tag)
 }
 
 // Sets one reading of the record of a tag: one byte.
+#[tactic(auto, using(crate::specs::Valid::opened_valid, crate::specs::Valid::valid_accepted))]
 pub fn amend_in(
     page: &mut [u8],
     width: u32,
@@ -38,49 +43,8 @@ pub fn amend_in(
 ) -> Result<(), BookFault>
     ensures { ChangedIn page.old width (amend tag test reading) page.new result }
 {
-    amended_in(page, width, tag, test, reading)
-}
-
-fn entered_in(
-    page: &mut [u8],
-    width: u32,
-    tag: u16,
-    part: u8,
-    readings: &[u8],
-) -> Result<(), BookFault>
-    ensures { ChangedIn page.old width (enter tag part readings.now) page.new result }
-{
-    if let Err(fault) = check(page, width) {
-        return Err(fault);
-    }
-    let mut book = PageBook::new(page, width);
-    book.enter(tag, part, readings)
-}
-
-fn withdrawn_in(page: &mut [u8], width: u32, tag: u16) -> Result<(), BookFault>
-    ensures { ChangedIn page.old width (withdraw tag) page.new result }
-{
-    if let Err(fault) = check(page, width) {
-        return Err(fault);
-    }
-    let mut book = PageBook::new(page, width);
-    book.withdraw(tag)
-}
-
-fn amended_in(
-    page: &mut [u8],
-    width: u32,
-    tag: u16,
-    test: u32,
-    reading: u8,
-) -> Result<(), BookFault>
-    ensures { ChangedIn page.old width (amend tag test reading) page.new result }
-{
-    if let Err(fault) = check(page, width) {
-        return Err(fault);
-    }
-    let mut book = PageBook::new(page, width);
-    book.amend(tag, test, reading)
+    check(page, width)?;
+    PageBook { page, width }.amend(tag, test, reading)
 }
 
 #[cfg(test)]

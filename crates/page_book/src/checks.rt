@@ -2,16 +2,17 @@
 
 ghost use Rattle.page_book.specs.Layout.{InSize};
 ghost use Rattle.refusals.specs.Faults.{passed};
-ghost use Rattle.page_book.specs.Refused.{fit_fault, layout_fault, page_fault, refused_page};
+ghost use Rattle.page_book.specs.Refused.{fit_fault, layout_fault, refused_page};
 ghost use Rattle.page_book.specs.Told.{Accepted, AgainstLayout, Misfit, TagTwice};
 ghost use Rattle.std.specs.Prelude.{◌≡◌, OnOk};
 
-use crate::layout::{LARGEST, NARROWEST, RECORD, WIDEST, wrong_byte};
+use crate::layout::{LARGEST, NARROWEST, RECORD, WIDEST, records, wrong_byte};
 use crate::tags::check_tags;
 use books::faults::{BookFault, PageFault};
 
 // Whether the bytes are a page of this width: accepted exactly when it is well formed; else the first fault in rising number,
 // a record against the layout by its lowest wrong byte.
+#[tactic(auto, using(crate::specs::Answered::clauses))]
 pub fn check(page: &[u8], width: u32) -> Result<(), BookFault>
     ensures answer { result ≡ passed (refused_page page.now width) }
     ensures accepted { Accepted page.now width result }
@@ -19,19 +20,9 @@ pub fn check(page: &[u8], width: u32) -> Result<(), BookFault>
     ensures layout { AgainstLayout page.now width result }
     ensures twice { TagTwice page.now width result }
 {
-    check_all(page, width)
-}
-
-// Width and size first, then the page, whose fault goes up whole.
-fn check_all(page: &[u8], width: u32) -> Result<(), BookFault>
-    ensures answer { result ≡ passed (refused_page page.now width) }
-    ensures accepted { Accepted page.now width result }
-    ensures misfit { Misfit page.now width result }
-    ensures layout { AgainstLayout page.now width result }
-    ensures twice { TagTwice page.now width result }
-{
     check_fit(page, width)?;
-    check_records(page, width)?;
+    check_layout(page, width)?;
+    check_tags(page)?;
     Ok(())
 }
 
@@ -40,7 +31,7 @@ fn check_fit(page: &[u8], width: u32) -> Result<(), BookFault>
     ensures answer { result ≡ passed (fit_fault page.now width) }
     ensures fits { OnOk result (InSize page.now) }
 {
-    if width < NARROWEST || width > WIDEST {
+    if !(NARROWEST..=WIDEST).contains(&width) {
         return Err(BookFault::Width);
     }
     if page.len() > LARGEST || page.len() % RECORD != 0 {
@@ -49,25 +40,16 @@ fn check_fit(page: &[u8], width: u32) -> Result<(), BookFault>
     Ok(())
 }
 
-// Refuses a record against the layout anywhere on the page before a tag that stands twice.
-fn check_records(page: &[u8], width: u32) -> Result<(), PageFault>
-    requires { InSize page.now }
-    ensures { result ≡ passed (page_fault page.now width) }
-{
-    check_layout(page, width)?;
-    check_tags(page)
-}
-
 // Refuses the lowest record against the layout, at its lowest wrong byte.
 fn check_layout(page: &[u8], width: u32) -> Result<(), PageFault>
     requires { InSize page.now }
     ensures { result ≡ passed (layout_fault page.now width) }
 {
-    for k in 0..page.len() / RECORD {
-        if let Some(byte) = wrong_byte(page, width, k) {
+    for (k, record) in records(page).iter().enumerate() {
+        if let Some(at) = wrong_byte(record, width) {
             return Err(PageFault::Layout {
                 record: k as u32,
-                byte,
+                byte: at as u32,
             });
         }
     }
@@ -86,9 +68,7 @@ mod tests {
         let mut page = [0; LEN];
         page[0] = 7;
         page[2] = 3;
-        for at in 6..28 {
-            page[at] = 255;
-        }
+        page[6..28].fill(255);
         page
     }
 

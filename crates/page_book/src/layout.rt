@@ -1,7 +1,7 @@
 // A record's 32 bytes: 0 and 1 the tag, 2 the part, 3 zero, 4 to 27 the readings of tests 1 to 24, 28 to 31 zero.
 
-ghost use Rattle.std.specs.Prelude.{◌≡◌, ◌+◌, ◌*◌, ◌<◌, ◌≤◌, length};
-ghost use Rattle.page_book.specs.Layout.{byte_at, code_at, part_at, tag_at};
+ghost use Rattle.std.specs.Prelude.{◌≡◌, ◌<◌, IfSome, length};
+ghost use Rattle.page_book.specs.Layout.{code_at, part_at, records_in, records_of, tag_at};
 ghost use Rattle.page_book.specs.Refused.{right_byte, wrong_byte};
 
 // bytes of a record
@@ -22,46 +22,45 @@ const PART: usize = 2;
 // a byte that stays zero
 const ZERO: usize = 3;
 // the first reading
-const READINGS: usize = 4;
+pub const READINGS: usize = 4;
 // the first byte after the readings, zero with all that follow
-const TAIL: usize = 28;
+pub const TAIL: usize = 28;
 // the lowest part
 const LOWEST_PART: u8 = 1;
 // and the highest
 const HIGHEST_PART: u8 = 250;
 
-// Byte `at` of record `k`.
-fn byte_at(page: &[u8], k: usize, at: usize) -> u8
-    requires { 32 * k + at < length page.now }
-    ensures { result ≡ byte_at page.now k at }
+// One record. By itself it is a page whose record 0 it is.
+pub type Record = [u8; RECORD];
+
+// The page, record by record.
+pub fn records(page: &[u8]) -> &[Record]
+    ensures each { result.now ≡ records_of page.now }
+    ensures len { length result.now ≡ records_in page.now }
 {
-    page[RECORD * k + at]
+    page.as_chunks().0
 }
 
-// The tag of record `k`, 0 where it is free.
-pub fn tag_at(page: &[u8], k: usize) -> u16
-    requires { 32 * k + 32 ≤ length page.now }
-    ensures { result ≡ tag_at page.now k }
+// A record's tag, 0 where it is free.
+pub fn tag(bytes: &Record) -> u16
+    ensures { result ≡ tag_at bytes.now 0 }
 {
-    let low = byte_at(page, k, 0);
-    let high = byte_at(page, k, 1);
-    low as u16 + 256 * high as u16
+    u16::from_le_bytes([bytes[0], bytes[1]])
 }
 
-// The part that record `k` is of.
-pub fn part_at(page: &[u8], k: usize) -> u8
-    requires { 32 * k + 32 ≤ length page.now }
-    ensures { result ≡ part_at page.now k }
+// The part that a record is of.
+pub fn part(bytes: &Record) -> u8
+    ensures { result ≡ part_at bytes.now 0 }
 {
-    byte_at(page, k, PART)
+    bytes[PART]
 }
 
-// The reading of record `k` at the test of place `place`, from 0.
-pub fn code_at(page: &[u8], k: usize, place: usize) -> u8
-    requires { (32 * k + 32 ≤ length page.now) × (place < 24) }
-    ensures { result ≡ code_at page.now k place }
+// A record's reading at the test of place `place`, from 0.
+pub fn code(bytes: &Record, place: usize) -> u8
+    requires { place < 24 }
+    ensures { result ≡ code_at bytes.now 0 place }
 {
-    byte_at(page, k, READINGS + place)
+    bytes[READINGS + place]
 }
 
 // Whether `value` may stand in byte `at` of a record with this tag.
@@ -71,7 +70,7 @@ fn right_byte(tag: u16, width: u32, at: usize, value: u8) -> bool
     if tag == FREE || at == ZERO || at >= TAIL {
         value == 0
     } else if at == PART {
-        value >= LOWEST_PART && value <= HIGHEST_PART
+        (LOWEST_PART..=HIGHEST_PART).contains(&value)
     } else if at >= READINGS + width as usize {
         value == BLANK
     } else {
@@ -79,16 +78,14 @@ fn right_byte(tag: u16, width: u32, at: usize, value: u8) -> bool
     }
 }
 
-// The lowest byte of record `k` that is against the layout.
-pub(crate) fn wrong_byte(page: &[u8], width: u32, k: usize) -> Option<u32>
-    requires { 32 * k + 32 ≤ length page.now }
-    ensures { result ≡ wrong_byte page.now width k }
+// The lowest byte of a record that is against the layout.
+pub fn wrong_byte(bytes: &Record, width: u32) -> Option<usize>
+    ensures first { result ≡ wrong_byte bytes.now width 0 }
+    ensures inside { IfSome result (λ at. at < 32) }
 {
-    let tag = tag_at(page, k);
-    for at in 0..RECORD {
-        if !right_byte(tag, width, at, byte_at(page, k, at)) {
-            return Some(at as u32);
-        }
-    }
-    None
+    let tag = tag(bytes);
+    bytes
+        .iter()
+        .enumerate()
+        .position(|(at, byte)| !right_byte(tag, width, at, *byte))
 }

@@ -1,28 +1,19 @@
 // Tags that stand twice on a page.
 
-ghost use Rattle.std.specs.Prelude.{◌≡◌, ◌+◌, ◌*◌, ◌≤◌, length};
-ghost use Rattle.page_book.specs.Layout.{InSize};
+ghost use Rattle.std.specs.Prelude.{◌≡◌};
+ghost use Rattle.std.specs.List.{list_any};
+ghost use Rattle.page_book.specs.Layout.{InSize, has_tag};
 ghost use Rattle.refusals.specs.Faults.{passed};
-ghost use Rattle.page_book.specs.Refused.{twice, twice_fault};
+ghost use Rattle.page_book.specs.Refused.{twice_fault};
 
-use crate::layout::{FREE, RECORD, tag_at};
+use crate::layout::{FREE, Record, records, tag as tag_of};
 use books::faults::PageFault;
 
-// Whether the tag of record `k`, where it is not 0, stands in an earlier record.
-fn stands_earlier(page: &[u8], k: usize) -> bool
-    requires { 32 * k + 32 ≤ length page.now }
-    ensures { result ≡ twice page.now k }
+// Whether some record has this tag.
+fn stands_in(records: &[Record], tag: u16) -> bool
+    ensures { result ≡ list_any (has_tag tag) records.now }
 {
-    let tag = tag_at(page, k);
-    if tag == FREE {
-        return false;
-    }
-    for i in 0..k {
-        if tag_at(page, i) == tag {
-            return true;
-        }
-    }
-    false
+    records.iter().any(|record| tag_of(record) == tag)
 }
 
 // Refuses the lowest record whose tag stands in an earlier one.
@@ -30,8 +21,10 @@ pub fn check_tags(page: &[u8]) -> Result<(), PageFault>
     requires { InSize page.now }
     ensures { result ≡ passed (twice_fault page.now) }
 {
-    for k in 0..page.len() / RECORD {
-        if stands_earlier(page, k) {
+    let records = records(page);
+    for (k, record) in records.iter().enumerate() {
+        let tag = tag_of(record);
+        if tag != FREE && stands_in(&records[..k], tag) {
             return Err(PageFault::Twice { record: k as u32 });
         }
     }

@@ -1,1 +1,1 @@
-mod Taken
+mod Pages

@@ -9,7 +9,7 @@ mod tests;
 
 use books::faults::BookFault;
 use planning::plans_of;
-use refusals::{Fault, Place};
+use refusals::{Place, Refusal};
 use std::io;
 use std::io::{BufWriter, Read, Write};
 use text::faults::TextFault;
@@ -27,19 +27,20 @@ fn main(rt: HostRuntime) -> io::Result<()> {
     rt.stdin().take(MOST_READ).read_to_end(&mut page)?;
     let mut list = [0u32; PLACES];
     let mut out = BufWriter::new(rt.alloc(), rt.stdout())?;
+    // over comes as 1 or 0, by a rule of the project
     match plans_of(page.as_slice(), &mut list) {
-        Ok((count, over)) => print_plans(&mut out, &list, count, over)?,
+        Ok((count, over)) => print_plans(&mut out, &list, count, over == 1)?,
         Err(fault) => print_refusal(&mut out, fault)?,
     }
     out.flush()
 }
 
 // The head line, and a line for each plan unless it is over.
-fn print_plans<W: Write>(out: &mut W, list: &[u32], count: u32, over: u32) -> io::Result<()> {
+fn print_plans<W: Write>(out: &mut W, list: &[u32], count: u32, over: bool) -> io::Result<()> {
     let mut line = [0u8; ROOM];
-    let written = head_line(&mut line, count, over == 1);
+    let written = head_line(&mut line, count, over);
     print_line(out, &line, written)?;
-    if over == 1 {
+    if over {
         return Ok(());
     }
     for plan in list.iter().take(count as usize) {
@@ -56,7 +57,7 @@ fn print_plan<W: Write>(out: &mut W, plan: u32) -> io::Result<()> {
 
 fn print_refusal<W: Write>(out: &mut W, fault: BookFault) -> io::Result<()> {
     let mut line = [0u8; ROOM];
-    let refusal = fault.refusal();
+    let refusal = Refusal::from(fault);
     let (record, byte) = match refusal.place {
         Place::At(_) => (0, 0),
         Place::InPage { record, byte } => (record, byte),

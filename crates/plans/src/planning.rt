@@ -1,42 +1,39 @@
-// The plans of a page: its matrix, straight from the records, and all minimal covers of that.
+// The plans of a page: the page is a book, and all plans of the book are listed.
 
-ghost use Rattle.std.specs.Prelude.{◌≡◌, ◌^◌, ◌<◌, length, OnOk};
+ghost use Rattle.bench.specs.Promise.{plans_by};
 ghost use Rattle.covers.specs.Answers.{listed, told};
-ghost use Rattle.covers.specs.Plans.{plans_of};
 ghost use Rattle.covers.specs.Theorems.{Lists};
+ghost use Rattle.matrix.specs.Rows.{matrix_of};
+ghost use Rattle.page_book.specs.Places.{page_meaning};
 ghost use Rattle.page_book.specs.Refused.{refused_page};
-ghost use Rattle.page_book.specs.Rows.{IsMatrix, matrix_of};
+ghost use Rattle.plans.specs.Rows.{IsMatrix};
+ghost use Rattle.readings.specs.Codes.{codes};
 ghost use Rattle.refusals.specs.Faults.{answered, leaves};
-ghost use Rattle.std.specs.List.{AllByRecursion as Every};
+ghost use Rattle.std.specs.Prelude.{◌≡◌, ℕ, None, length};
 
+use bench::bench::MOST_ROWS;
+use bench::whole::plans_of as plans_of_book;
 use books::faults::BookFault;
-use covers::listing::cover;
-use page_book::rows::{MOST_ROWS, matrix};
+use page_book::LARGEST;
+use page_book::book::PageBook;
+use page_book::checks::check;
 
 // the width at which the program reads a page
 const WIDTH: u32 = 24;
 
-// Lists the plans of a page, answering their number and over; refuses a page that is not well formed and leaves the list.
+// Lists the plans of a page, answering two numbers by a rule of the project, how many and over; refuses a page that is not well formed and leaves the list.
+// The book is a copy of the page: a page book may be changed, and the page is only read.
 pub fn plans_of(page: &[u8], list: &mut [u32]) -> Result<(u32, u32), BookFault>
-    ensures answer { result ≡ answered (refused_page page.now 24) (told (length list.old) (plans_of (matrix_of page.now) 24)) }
-    ensures after { list.new ≡ leaves (refused_page page.now 24) list.old (listed (length list.old) (plans_of (matrix_of page.now) 24)) }
-    ensures rows { OnOk result (IsMatrix page.now (matrix_of page.now)) }
-    ensures plans { OnOk result (Lists (matrix_of page.now) (plans_of (matrix_of page.now) 24)) }
+    ensures answer { result ≡ answered (refused_page page.now 24) (told (length list.old) (plans_by codes (page_meaning page.now 24))) }
+    ensures after { list.new ≡ leaves (refused_page page.now 24) list.old (listed (length list.old) (plans_by codes (page_meaning page.now 24))) }
+    ensures rows { (width : ℕ) → refused_page page.now width ≡ None → IsMatrix page.now (matrix_of codes (page_meaning page.now width).held) }
+    ensures plans { refused_page page.now 24 ≡ None → Lists (matrix_of codes (page_meaning page.now 24).held) (plans_by codes (page_meaning page.now 24)) }
 {
-    let mut rows = [0u32; MOST_ROWS];
-    let count = matrix(page, WIDTH, &mut rows)?;
-    Ok(cover_rows(&rows[0..count], list))
-}
-
-// Lists the minimal covers of rows that have no test above 24: the cover call does not refuse them.
-fn cover_rows(rows: &[u32], list: &mut [u32]) -> (u32, u32)
-    requires { Every (λ s. s < 2 ^ 24) rows.now }
-    ensures answer { result ≡ told (length list.old) (plans_of rows.now 24) }
-    ensures after { list.new ≡ listed (length list.old) (plans_of rows.now 24) }
-    ensures plans { Lists rows.now (plans_of rows.now 24) }
-{
-    match cover(WIDTH, rows, list) {
-        Ok(answer) => answer,
-        Err(_) => unreachable(),
-    }
+    check(page, WIDTH)?;
+    let mut bytes = [0u8; LARGEST];
+    let copy = &mut bytes[..page.len()];
+    copy.copy_from_slice(page);
+    let book = PageBook::new(copy, WIDTH);
+    let mut work = [0u32; MOST_ROWS];
+    Ok(plans_of_book(&book, list, &mut work).unwrap())
 }

@@ -5,7 +5,7 @@ use Rattle.readings.specs.Spans.{Shares, everything, spans}
 use Rattle.readings.specs.declared.spans.Span.{Span}
 use Rattle.std.proofs.lemmas.Bool.{and_from, and_parts, eqb-true, le-leb, leb-true}
 use mathlib.Core.HLevel.{is_prop→PathP}
-use Rattle.std.proofs.Common.{sym, ◌∙◌, arith}
+use Rattle.std.proofs.Common.{arith}
 use Rattle.std.proofs.Math.Bridge.{le_prop}
 
 -- spans with the same ends are the same
@@ -48,7 +48,3 @@ sharing x y = (common, shared)
     shared : Shares x y → spans.agrees x y ≡ true
     shared (n, (a, b), (c, d)) =
         and_from (nat_le x.low y.high) (nat_le y.low x.high) (le-leb x.low y.high (omega arith)) (le-leb y.low x.high (omega arith))
-
--- whatever answers as the kind does tells whether they share a number
-pub shares_by : (x y : Span) (r : Bool) → r ≡ spans.agrees x y → (r ≡ true) ↔ Shares x y
-shares_by x y r e = ((λ t. (sharing x y).0 (sym e ∙ t)), λ s. e ∙ (sharing x y).1 s)

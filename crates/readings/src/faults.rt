@@ -1,8 +1,9 @@
 // The fault of a span.
 
 ghost use Rattle.readings.specs.Faults.{span_line};
+ghost use Rattle.std.specs.Prelude.{◌≡◌};
 
-use refusals::{Fault, Origin, Place, Refusal};
+use refusals::{Origin, Refusal};
 
 #[derive(Clone, Copy, PartialEq, Eq, Debug)]
 pub enum SpanFault {
@@ -10,16 +11,13 @@ pub enum SpanFault {
     Backward,
 }
 
-impl Fault for SpanFault {
-    ghost line = { span_line };
+// The fault's line of the refusal table.
+impl From<SpanFault> for Refusal {
+    ghost from_gives = { λ fault r. r ≡ span_line fault };
 
-    fn refusal(&self) -> Refusal {
-        match *self {
-            SpanFault::Backward => Refusal {
-                number: 17,
-                origin: Origin::Span,
-                place: Place::At(0),
-            },
+    fn from(fault: SpanFault) -> Refusal {
+        match fault {
+            SpanFault::Backward => Refusal::at(17, Origin::Span, 0),
         }
     }
 }

@@ -1,8 +1,8 @@
-// Refusals: what every refused call tells, and what every fault enum must show.
+// Refusals: what every refused call tells.
 
 #![tactic(auto)]
 
-ghost use Rattle.refusals.specs.declared.Refusal.{Refusal};
+ghost use Rattle.refusals.specs.declared.Place.TheVariants.{At};
 ghost use Rattle.std.specs.Prelude.{◌≡◌};
 
 // Which piece of the library refuses.
@@ -25,6 +25,7 @@ pub enum Place {
     InPage { record: u32, byte: u32 },
 }
 
+// A line of the refusal table; every fault enum becomes its line by `From`.
 #[derive(Clone, Copy, PartialEq, Eq, Debug)]
 pub struct Refusal {
     pub number: u32,
@@ -32,13 +33,17 @@ pub struct Refusal {
     pub place: Place,
 }
 
-// What every fault enum shows: the line of the refusal table that it is.
-pub trait Fault {
-    ghost line: { Self → Refusal };
-
-    // The number, origin and place of this fault.
-    fn refusal(&self) -> Refusal
-        ensures { result ≡ line self.now };
+impl Refusal {
+    // A line whose place is a number.
+    pub fn at(number: u32, origin: Origin, place: u64) -> Refusal
+        ensures { result ≡ record { number = number; origin = origin; place = At place } }
+    {
+        Refusal {
+            number,
+            origin,
+            place: Place::At(place),
+        }
+    }
 }
 
 #[cfg(test)]

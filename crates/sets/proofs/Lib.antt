@@ -2,3 +2,4 @@ pub mod Bits
 pub mod Places
 pub mod Runs
 pub mod Members
+pub mod Lowest

@@ -39,41 +39,40 @@ module _ {R : Type 0} where
     book_next a = gathered_next a (places w ss cs) ∙ lowest_places w a ss cs
 
     -- the record of a tag is found in the first slot with the tag
-    pub book_found : (t k : ℕ) → t ≢ 0 → slot_of t ss ≡ Some k → find t (gathered (places w ss cs)) ≡ Some (row_of (get_or ss k no_slot) (cells_of w k cs))
-    book_found t k nt e =
-        let f = facts ss cs w v in
+    pub book_find : (t : ℕ) → t ≢ 0 → find t (gathered (places w ss cs)) ≡ option_map (λ (k : ℕ). row_of (get_or ss k no_slot) (cells_of w k cs)) (slot_of t ss)
+    book_find t nt =
         let d : Rec R = row_of no_slot [] in
-        gathered_find t (places w ss cs) f.distinct
+        gathered_find t (places w ss cs) (facts ss cs w v).distinct
         ∙ standing_slot w t d nt ss cs
-        ∙ ap (option_map (λ (j : ℕ). get_or (rows w ss cs) j d)) e
-        ∙ ap Some (get_d_rows w ss cs k d (slot_found t ss k e).0)
-
-    pub book_lost : (t : ℕ) → t ≢ 0 → slot_of t ss ≡ None → find t (gathered (places w ss cs)) ≡ None
-    book_lost t nt e =
-        let f = facts ss cs w v in
-        let d : Rec R = row_of no_slot [] in
-        gathered_find t (places w ss cs) f.distinct
-        ∙ standing_slot w t d nt ss cs
-        ∙ ap (option_map (λ (j : ℕ). get_or (rows w ss cs) j d)) e
+        ∙ go d (slot_of t ss) (λ k e. (slot_found t ss k e).0)
+      where
+        go : (d : Rec R) (o : Option ℕ) → ((k : ℕ) → o ≡ Some k → k < length ss)
+            → option_map (λ (k : ℕ). get_or (rows w ss cs) k d) o ≡ option_map (λ (k : ℕ). row_of (get_or ss k no_slot) (cells_of w k cs)) o
+        go d None h = refl
+        go d (Some k) h = ap Some (get_d_rows w ss cs k d (h k refl))
 
     -- no record has tag 0
-    pub book_zero : find 0 (gathered (places w ss cs)) ≡ None
-    book_zero = gathered_find 0 (places w ss cs) (facts ss cs w v).distinct ∙ standing_zero w ss cs
+    pub book_zero : (t : ℕ) → t ≡ 0 → find t (gathered (places w ss cs)) ≡ None
+    book_zero t e =
+        ap (λ (n : ℕ). find n (gathered (places w ss cs))) e ∙ gathered_find 0 (places w ss cs) (facts ss cs w v).distinct ∙ standing_zero w ss cs
 
-    -- the cells of a slot are within, and few
-    pub book_within : (k : ℕ) → k < length ss → (k * w + w ≤ length cs) × (length cs ≤ 1536)
-    book_within k l =
-        let f = facts ss cs w v in
-        (omega (arith, within w (length ss) k l, f.long), omega (arith, f.long, mul-le-mul f.roomy f.wide.1))
+    -- the slots are few
+    pub book_few : length ss ≤ 64
+    book_few = (facts ss cs w v).roomy
+
+    -- the cells of a slot are within
+    pub book_inside : (k : ℕ) → k < length ss → k * w + w ≤ length cs
+    book_inside k l = omega (arith, within w (length ss) k l, (facts ss cs w v).long)
+
+    -- the cells are few
+    pub book_small : length cs ≤ 1536
+    book_small = let f = facts ss cs w v in omega (arith, f.long, mul-le-mul f.roomy f.wide.1)
 
   -- ---- a reading by its test
 
   pub reading_here : (test : ℕ) (xs : List R) (d : R) → test < length xs → reading_at (suc test) xs ≡ Some (get_or xs test d)
   unfolding reading_at
-  reading_here test [] d l = absurd (none l)
-    where
-      none : test < 0 → ⊥
-      none h = omega arith
+  reading_here test [] d l = absurd (omega arith)
   reading_here zero (x ∷ xs) d l = refl
   reading_here (suc test) (x ∷ xs) d l = reading_here test xs d (omega (arith, l))
 
@@ -81,10 +80,7 @@ module _ {R : Type 0} where
   unfolding reading_at
   reading_past zero xs l = refl
   reading_past (suc test) [] l = refl
-  reading_past (suc zero) (x ∷ xs) l = absurd (none l)
-    where
-      none : suc (length xs) < 1 → ⊥
-      none h = omega arith
+  reading_past (suc zero) (x ∷ xs) l = absurd (omega arith)
   reading_past (suc (suc test)) (x ∷ xs) l = reading_past (suc test) xs (omega (arith, l))
 
   pub reading_zero : (xs : List R) → reading_at 0 xs ≡ None
@@ -113,18 +109,12 @@ module _ {R : Type 0} where
         (All-weaker (Fits kind w (λ _. false)) (λ x. length x.readings ≡ w) (λ x f. f.full) (gathered (places w ss cs)) (book_sound ss cs w v kind).records)
         o
 
-    -- the reading of the slot that is found
-    pub reading_found : (t test k : ℕ) (r : R) → t ≢ 0 → Some k ≡ slot_of t ss → 1 ≤ test → test ≤ w
-        → ((d : R) → r ≡ get_or cs (k * w + (test - 1)) d) → Some r ≡ reading_in test (find t (gathered (places w ss cs)))
-    reading_found t test k r nt e l m h =
-        let i = (slot_found t ss k (sym e)).0 in
-        let n = length_cells w cs k (book_within ss cs w v k i).0 in
+    -- a cell of a slot is its reading at a test
+    pub cell_read : (k test : ℕ) (d : R) → k < length ss → 1 ≤ test → test ≤ w → reading_at test (cells_of w k cs) ≡ Some (get_or cs (k * w + (test - 1)) d)
+    cell_read k test d i l m =
+        let n = length_cells w cs k (book_inside ss cs w v k i) in
         let j : test - 1 < w = omega arith in
         let q : suc (test - 1) ≡ test = omega arith in
-        ap Some
-        (h r
-        ∙ sym (get_or-drop (k * w) cs (test - 1) r)
-        ∙ sym (get_or-take w (drop (k * w) cs) (test - 1) r j))
-        ∙ sym (reading_here (test - 1) (cells_of w k cs) r (omega (arith, n)))
-        ∙ ap (λ (n : ℕ). reading_at n (cells_of w k cs)) q
-        ∙ sym (ap (reading_in test) (book_found ss cs w v t k nt (sym e)))
+        ap (λ (n : ℕ). reading_at n (cells_of w k cs)) (sym q)
+        ∙ reading_here (test - 1) (cells_of w k cs) d (omega (arith, n))
+        ∙ ap Some (get_or-take w (drop (k * w) cs) (test - 1) d j ∙ get_or-drop (k * w) cs (test - 1) d)

@@ -1,14 +1,14 @@
 -- The changes: what the table lets through, and what the writes then make of the book.
-use Rattle.std.proofs.Common.{◌≡◌, ℕ, suc, ◌-◌, ◌<◌, ◌≤◌, Bool, true, false, cond, ◌&&◌, eqb, leb, ◌≢◌, List, [], ◌∷◌, length, get_or, set, is_some, Some, None, Option, sym, refl, ap, ◌∙◌, subst, arith}
+use Rattle.std.proofs.Common.{◌≡◌, ℕ, suc, ◌-◌, ◌<◌, ◌≤◌, Bool, true, false, cond, ◌&&◌, eqb, leb, ◌≢◌, List, [], ◌∷◌, length, get_or, set, is_some, Some, None, Option, Ok, sym, refl, ap, ◌∙◌, subst, arith}
 use Rattle.books.proofs.Gathering.{gathered_amend, gathered_enter, gathered_find, gathered_withdraw}
 use Rattle.books.specs.Changes.{amend, enter, insert, refused, remove, reread, reread_of, withdraw}
 use Rattle.books.specs.Gathered.{Distinct, gathered, standing}
 use Rattle.books.specs.Meanings.{Meaning, Rec, is_part, is_test}
 use Rattle.books.specs.Questions.{find}
 use Rattle.readings.specs.Kinds.{Kind}
-use Rattle.refusals.specs.Faults.{or_else, when}
+use Rattle.refusals.specs.Faults.{or_else, passed, when}
 use Rattle.slot_book.specs.Rows.{get_d_rows, length_rows, length_places}
-use Rattle.slot_book.specs.Standing.{place_none, place_some, slot_found, standing_slot}
+use Rattle.slot_book.specs.Standing.{place_none, place_some, slot_found, slot_of-cons, used-cons, standing_slot}
 use Rattle.slot_book.specs.Valid.{facts}
 use Rattle.slot_book.specs.Found.{slot_of, used}
 use Rattle.slot_book.specs.Slots.{cells_of, meaning, no_slot, place_of, places, right_slot, row_of, rows, valid_slots}
@@ -19,24 +19,26 @@ use Rattle.std.specs.Option.{option_map}
 
 -- ---- what the table lets through
 
-clash : ◌≡◌ {A = ℕ} 0 1 → ⊥
-clash q = omega arith
-
 or_none : {E : Type 0} (a b : Option E) → or_else a b ≡ None → (a ≡ None) × (b ≡ None)
 or_none None b e = (refl, e)
-or_none (Some x) b e = let z : ◌≡◌ {A = ℕ} 0 1 = cc in absurd (clash z)
+or_none (Some x) b e = cc
 
 when_none : {E : Type 0} (t : Bool) (x : E) → when t x ≡ None → t ≡ false
-when_none true x e = let z : ◌≡◌ {A = ℕ} 0 1 = cc in absurd (clash z)
+when_none true x e = cc
 when_none false x e = refl
 
 absent : {A : Type 0} (o : Option A) → is_some o ≡ false → o ≡ None
 absent None e = refl
-absent (Some x) e = let z : ◌≡◌ {A = ℕ} 0 1 = cc in absurd (clash z)
+absent (Some x) e = cc
 
 pub present : {A : Type 0} (o : Option A) → is_some o ≡ true → o ≡ None → ⊥
-present None e f = let z : ◌≡◌ {A = ℕ} 0 1 = cc in clash z
-present (Some x) e f = let z : ◌≡◌ {A = ℕ} 0 1 = cc in clash z
+present None e f = cc
+present (Some x) e f = cc
+
+-- what the table passed has no fault
+pub no_fault : {E : Type 0} (o : Option E) (u : Unit {0}) → passed o ≡ Ok u → o ≡ None
+no_fault None u e = refl
+no_fault (Some x) u e = cc
 
 pub record Enters {R : Type 0} (m : Meaning R) (tag part : ℕ) (rs : List R) : Type 0 where
   pub tagged : tag ≢ 0
@@ -79,15 +81,15 @@ module _ {R : Type 0} (kind : Kind R) (m : Meaning R) where
 pub all_used : (ss : List Slot) → slot_of 0 ss ≡ None → used ss ≡ length ss
 unfolding slot_of used
 all_used [] e = refl
-all_used (s ∷ ss) e = go (eqb s.tag 0) e (λ k. all_used ss k)
+all_used (s ∷ ss) e = used-cons s ss ∙ go (eqb s.tag 0) (sym (slot_of-cons 0 s ss) ∙ e) (λ k. all_used ss k)
   where
     later : (o : Option ℕ) → option_map suc o ≡ None → o ≡ None
     later None f = refl
-    later (Some k) f = let z : ◌≡◌ {A = ℕ} 0 1 = cc in absurd (clash z)
+    later (Some k) f = cc
 
     go : (b : Bool) → cond b (Some 0) (option_map suc (slot_of 0 ss)) ≡ None → (slot_of 0 ss ≡ None → used ss ≡ length ss)
         → cond b (used ss) (suc (used ss)) ≡ suc (length ss)
-    go true f h = let z : ◌≡◌ {A = ℕ} 0 1 = cc in absurd (clash z)
+    go true f h = cc
     go false f h = ap suc (h (later (slot_of 0 ss) f))
 
 -- ---- the records after the writes

@@ -1,4 +1,4 @@
-pub mod Walks
+pub mod Lowest
 pub mod Asked
 pub mod Opening
 pub mod Writing

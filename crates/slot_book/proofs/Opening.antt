@@ -1,54 +1,41 @@
 -- Opening: what the check finds, and what a book over emptied memory is.
-use Rattle.std.proofs.Common.{◌≡◌, ℕ, zero, suc, ◌+◌, ◌*◌, ◌≤◌, Bool, true, false, not, ◌&&◌, eqb, leb, List, [], ◌++◌, length, drop, replicate, is_err, Some, None, Option, sym, refl, ap, ◌∙◌, arith, MutBor}
+use Rattle.std.proofs.Common.{◌≡◌, ℕ, zero, suc, ◌*◌, Bool, true, false, not, ◌&&◌, eqb, leb, List, [], ◌∷◌, length, drop, replicate, is_err, Some, None, Option, sym, refl, ap, ◌∙◌, arith}
 use Rattle.books.specs.Gathered.{Distinct, gathered}
-use Rattle.books.specs.Meanings.{Meaning, Rec}
 use Rattle.books.specs.declared.faults.BookFault.TheVariants.{Size, Width}
 use Rattle.books.specs.declared.faults.BookFault.{BookFault}
-use Rattle.readings.specs.Kinds.{Kind}
-use Rattle.refusals.specs.Faults.{leaves, or_else, passed, when}
+use Rattle.refusals.specs.Faults.{or_else, passed, when}
 use Rattle.slot_book.specs.Valid.{valid_from}
-use Rattle.slot_book.specs.Opened.{Opened, holds_none, refused_slots}
-use Rattle.slot_book.specs.Slots.{apart, every, meaning, no_slot, places, right_slot, rows, valid_slots}
-use Rattle.slot_book.specs.declared.memory.SlotBook.{SlotBook}
+use Rattle.slot_book.specs.Opened.{refused_slots}
+use Rattle.slot_book.specs.Slots.{apart, no_slot, places, right_slot, rows, valid_slots}
 use Rattle.slot_book.specs.declared.slots.Slot.{Slot}
-use Rattle.std.proofs.lemmas.List.{append-nil, drop_all, length-replicate, take_all}
+use Rattle.std.proofs.lemmas.List.{length-replicate}
 use Rattle.std.proofs.lemmas.Bool.{and_parts, eqb-true, leb-true}
-use Rattle.std.specs.List.{AllByRecursion as Every}
-use lib.Seq.{paste}
-
-clash : ◌≡◌ {A = ℕ} 0 1 → ⊥
-clash q = omega arith
-
-leaves_err : {M : Type 0} (o : Option BookFault) (a b : M) → is_err (passed o) ≡ true → leaves o a b ≡ a
-leaves_err None a b e = let z : ◌≡◌ {A = ℕ} 0 1 = cc in absurd (clash z)
-leaves_err (Some f) a b e = refl
+use Rattle.std.specs.List.{AllByRecursion as Every, FoldsTo}
 
 pub none_ok : (o : Option BookFault) → is_err (passed o) ≡ false → o ≡ None
 none_ok None e = refl
-none_ok (Some f) e = let z : ◌≡◌ {A = ℕ} 0 1 = cc in absurd (clash z)
-
-no_none : (o : Option BookFault) → is_err (passed o) ≡ true → o ≡ None → ⊥
-no_none None e f = let z : ◌≡◌ {A = ℕ} 0 1 = cc in clash z
-no_none (Some x) e f = let z : ◌≡◌ {A = ℕ} 0 1 = cc in clash z
+none_ok (Some f) e = cc
 
 both_fit : (a b : Bool) → or_else (when (not a) Width) (when (not b) Size) ≡ None → (a && b) ≡ true
 both_fit true true e = refl
-both_fit true false e = let z : ◌≡◌ {A = ℕ} 0 1 = cc in absurd (clash z)
-both_fit false b e = let z : ◌≡◌ {A = ℕ} 0 1 = cc in absurd (clash z)
+both_fit true false e = cc
+both_fit false b e = cc
 
--- every cell written is what was written
-pub paste_whole : {A : Type 0} (d s : List A) (n : ℕ) → length d ≤ n → length s ≡ n → paste d 0 s n ≡ s
-paste_whole {A} d s n h e =
-    ap (λ (xs : List A). xs ++ drop (0 + n) d) (take_all n s (omega (arith, e)))
-    ∙ ap (λ (xs : List A). s ++ xs) (drop_all (0 + n) d (omega (arith, h)))
-    ∙ append-nil s
+-- steps that give one value alone give it each time
+pub folds_same : {P A : Type 0} (step : P → A → P → Type 0) (x : A) (ys : List A) (p q : P) → FoldsTo step p ys q
+    → ((u : P) (y : A) (v : P) → step u y v → y ≡ x) → (n : ℕ) → length ys ≡ n → ys ≡ replicate n x
+folds_same step x [] p q f h n e = ap (λ (m : ℕ). replicate m x) e
+folds_same {P} {A} step x (y ∷ ys) p q (j, s, f) h n e =
+    ap (λ (z : A). z ∷ ys) (h p y j s)
+    ∙ ap (λ (zs : List A). x ∷ zs) (folds_same step x ys j q f h (length ys) refl)
+    ∙ ap (λ (m : ℕ). replicate m x) e
 
 empty_right : (n : ℕ) → Every (λ s. right_slot s ≡ true) (replicate n no_slot)
 empty_right zero = tt
 empty_right (suc n) = (refl, empty_right n)
 
 pub none_valid : (R : Type 0) → valid_slots {R = R} [] [] 1 ≡ true
-unfolding valid_slots every apart rows
+unfolding valid_slots apart rows
 none_valid R = refl
 
 module _ {R : Type 0} where
@@ -77,40 +64,14 @@ module _ {R : Type 0} where
         distinct = empty_distinct w (length ss) (replicate (length cs) blank);
       })
 
-  module _ (kind : Kind R) (slots : MutBor (List Slot)) (cells : MutBor (List R)) (width : ℕ) (b : SlotBook R) where
-    pub opened_none : is_err (passed (refused_slots slots.now cells.now width)) ≡ true → b.width ≡ 1 → b.slots.now ≡ [] → b.cells.now ≡ []
-        → Opened kind slots cells width b
-    unfolding gathered rows
-    opened_none e w s c =
-        let o = refused_slots slots.now cells.now width in
-        record {
-          wide = w ∙ sym (leaves_err o 1 width e);
-          emptied = s ∙ sym (leaves_err o [] (replicate (length slots.now) no_slot) e);
-          blanked = c ∙ sym (leaves_err o [] (replicate (length cells.now) kind.blank) e);
-          means =
-              ap (λ (n : ℕ). meaning n b.slots.now b.cells.now) w
-              ∙ ap (λ (xs : List Slot). meaning 1 xs b.cells.now) s
-              ∙ sym (leaves_err o (holds_none 1 0) (holds_none width (length slots.now)) e);
-          same = λ n. absurd (no_none o e n);
-        }
+  -- what a book over emptied memory is valid by
+  pub emptied_valid : (ss ts : List Slot) (cs ds : List R) (w : ℕ) (blank : R) → ts ≡ replicate (length ss) no_slot → ds ≡ replicate (length cs) blank
+      → is_err (passed (refused_slots ss cs w)) ≡ false → valid_slots ts ds w ≡ true
+  emptied_valid ss ts cs ds w blank e f o =
+      ap (λ (xs : List Slot). valid_slots xs ds w) e
+      ∙ ap (λ (xs : List R). valid_slots (replicate (length ss) no_slot) xs w) f
+      ∙ empty_valid ss cs w blank (none_ok (refused_slots ss cs w) o)
 
-    pub opened_whole : refused_slots slots.now cells.now width ≡ None → b.width ≡ width
-        → b.slots.now ≡ replicate (length slots.now) no_slot → b.cells.now ≡ replicate (length cells.now) kind.blank
-        → b.slots.ghost_name ≡ slots.ghost_name → b.cells.ghost_name ≡ cells.ghost_name
-        → Opened kind slots cells width b
-    opened_whole e w s c ns nc =
-        record {
-          wide = w ∙ sym (ap (λ (o : Option BookFault). leaves o 1 width) e);
-          emptied = s ∙ sym (ap (λ (o : Option BookFault). leaves o [] (replicate (length slots.now) no_slot)) e);
-          blanked = c ∙ sym (ap (λ (o : Option BookFault). leaves o [] (replicate (length cells.now) kind.blank)) e);
-          means =
-              ap (λ (n : ℕ). meaning n b.slots.now b.cells.now) w
-              ∙ ap (λ (xs : List Slot). meaning width xs b.cells.now) s
-              ∙ ap (λ (n : ℕ). capacious n (gathered (places width (replicate (length slots.now) no_slot) b.cells.now))) (length-replicate (length slots.now) no_slot)
-              ∙ ap (λ (xs : List (Rec R)). capacious (length slots.now) xs) (empty_gathered width (length slots.now) b.cells.now)
-              ∙ sym (ap (λ (o : Option BookFault). leaves o (holds_none 1 0) (holds_none width (length slots.now))) e);
-          same = λ n. (ns, nc);
-        }
-      where
-        capacious : ℕ → List (Rec R) → Meaning R
-        capacious n xs = record { width = width; capacity = n; closed_test = λ _. false; closed_part = λ _. false; held = xs }
+  -- slots that are all empty hold no record
+  pub none_gathered : (w : ℕ) (ss : List Slot) (cs : List R) → ss ≡ replicate (length ss) no_slot → gathered (places w ss cs) ≡ []
+  none_gathered w ss cs e = ap (λ (xs : List Slot). gathered (places w xs cs)) e ∙ empty_gathered w (length ss) cs

@@ -1,7 +1,10 @@
 -- What an accepted change makes of a slot book's memory.
-use Rattle.std.specs.Prelude.{◌≡◌, ℕ, ◌+◌, ◌-◌, ◌*◌, ◌<◌, List, length, replicate, slice_index_or, slice_set}
-use Rattle.books.specs.Changes.{Change, amend, enter, withdraw}
+use Rattle.std.specs.Prelude.{◌≡◌, ℕ, ◌+◌, ◌-◌, ◌*◌, ◌<◌, List, length, replicate, Ok, slice_index_or, slice_set}
+use Rattle.books.specs.Changes.{Change, amend, enter, refused, withdraw}
+use Rattle.books.specs.Promises.{Left}
 use Rattle.readings.specs.Kinds.{Kind}
+use Rattle.refusals.specs.Faults.{passed}
+use Rattle.slot_book.specs.Meant.{meant}
 use Rattle.slot_book.specs.Slots.{no_slot, put_cells}
 use Rattle.slot_book.specs.declared.memory.SlotBook.{SlotBook}
 use Rattle.slot_book.specs.declared.slots.Slot.{Slot}
@@ -29,3 +32,11 @@ rewritten kind b (withdraw tag) d =
 rewritten kind b (amend tag test reading) d =
     (k : ℕ) × HasTag b k tag
     × Becomes b d b.slots.now (slice_set b.cells.now (k * b.width + (test - 1)) reading)
+
+-- the table passes the change
+abbrev pub Passes : {R : Type 0} → Kind R → SlotBook R → Change R → Type 0
+Passes kind b change = passed (refused kind (meant b) change) ≡ Ok tt
+
+-- the change is made: the book means what it should, and its memory is rewritten so
+abbrev pub Made : {R : Type 0} → Kind R → SlotBook R → Change R → SlotBook R → Type 0
+Made kind b change d = Left meant (rewritten kind) change b d (Ok tt)

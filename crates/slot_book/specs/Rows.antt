@@ -7,10 +7,7 @@ use Rattle.std.proofs.lemmas.List.{append_assoc, drop_at, drop-drop, length-appe
 
 -- the cells of slot k are within the cells of n slots
 pub within : (w n k : ℕ) → k < n → k * w + w ≤ n * w
-within w zero k l = absurd (none l)
-  where
-    none : k < 0 → ⊥
-    none h = omega arith
+within w zero k l = absurd (omega arith)
 within w (suc n) zero l = omega (arith, zero-mul w, suc-mul n w)
 within w (suc n) (suc k) l = omega (arith, suc-mul n w, suc-mul k w, within w n k (omega (arith, l)))
 
@@ -35,10 +32,7 @@ module _ {R : Type 0} (w : ℕ) where
   pub get_d_rows : (ss : List Slot) (cs : List R) (k : ℕ) (d : Rec R) → k < length ss
       → get_or (rows w ss cs) k d ≡ row_of (get_or ss k no_slot) (cells_of w k cs)
   unfolding rows
-  get_d_rows [] cs k d l = absurd (none l)
-    where
-      none : k < 0 → ⊥
-      none h = omega arith
+  get_d_rows [] cs k d l = absurd (omega arith)
   get_d_rows (s ∷ ss) cs zero d l = ap (λ (xs : List R). row_of s (take w xs)) (sym (drop_first cs))
   get_d_rows (s ∷ ss) cs (suc k) d l =
       get_d_rows ss (drop w cs) k d (omega (arith, l)) ∙ ap (λ (xs : List R). row_of (get_or ss k no_slot) (take w xs)) (sym (drop_next k cs))

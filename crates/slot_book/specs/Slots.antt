@@ -3,6 +3,7 @@ use Rattle.std.specs.Prelude.{ℕ, ◌+◌, ◌*◌, Bool, true, false, cond, no
 use Rattle.books.specs.Gathered.{gathered, standing}
 use Rattle.books.specs.Meanings.{Meaning, Rec, is_part}
 use Rattle.slot_book.specs.declared.slots.Slot.{Slot}
+use Rattle.std.specs.List.{list_all}
 
 -- a slot of no record
 abbrev pub no_slot : Slot
@@ -33,11 +34,6 @@ place_of x = cond (x.tag == 0) None (Some x)
 abbrev pub places : {R : Type 0} → ℕ → List Slot → List R → List (Option (Rec R))
 places width slots cells = map place_of (rows width slots cells)
 
--- every element passes
-unfoldable pub every : {X : Type 0} → (X → Bool) → List X → Bool
-every test [] = true
-every test (x ∷ xs) = test x && every test xs
-
 -- no two places have records of one tag
 unfoldable pub apart : {R : Type 0} → List (Option (Rec R)) → Bool
 apart [] = true
@@ -55,7 +51,7 @@ fit_slots slots cells width =
 
 -- and every slot is right, and no two have one tag
 unfoldable pub valid_slots : {R : Type 0} → List Slot → List R → ℕ → Bool
-valid_slots slots cells width = fit_slots slots cells width && (every right_slot slots && apart (places width slots cells))
+valid_slots slots cells width = fit_slots slots cells width && (list_all right_slot slots && apart (places width slots cells))
 
 -- what the book means: nothing is closed
 abbrev pub meaning : {R : Type 0} → ℕ → List Slot → List R → Meaning R

@@ -12,13 +12,10 @@ use Rattle.std.proofs.lemmas.List.{length-drop, length-take-le}
 use Rattle.std.proofs.lemmas.Bool.{and_parts, cases_eq, cond-false, leb-true, ne_eqb}
 use Rattle.std.specs.List.{AllByRecursion as Every}
 
-clash : ◌≡◌ {A = ℕ} 0 1 → ⊥
-clash q = omega arith
-
 module _ {R : Type 0} where
   blank_open : (kind : Kind R) (n : ℕ) (xs : List R) → BlankFrom kind (λ _. false) n xs
   blank_open kind n [] = tt
-  blank_open kind n (x ∷ xs) = ((λ e. let z : ◌≡◌ {A = ℕ} 0 1 = cc in absurd (clash z)), blank_open kind (suc n) xs)
+  blank_open kind n (x ∷ xs) = ((λ e. cc), blank_open kind (suc n) xs)
 
   -- every record of a slot fits
   pub places_fit : (kind : Kind R) (w : ℕ) (ss : List Slot) (cs : List R) → length cs ≡ length ss * w → Every (λ s. right_slot s ≡ true) ss
@@ -53,8 +50,8 @@ module _ {R : Type 0} where
           wide = f.wide;
           roomy = f.roomy;
           fitting = omega (arith, gathered_length (places w ss cs), occupied_few (places w ss cs), length_places w ss cs);
-          tests = λ t e. let z : ◌≡◌ {A = ℕ} 0 1 = cc in absurd (clash z);
-          parts = λ t e. let z : ◌≡◌ {A = ℕ} 0 1 = cc in absurd (clash z);
+          tests = λ t e. cc;
+          parts = λ t e. cc;
           rising = gathered_rising (places w ss cs) f.distinct;
           records = gathered_all (Fits kind w (λ _. false)) (places w ss cs) (places_fit kind w ss cs f.long f.right);
         }

@@ -1,5 +1,5 @@
 -- What stands in the places of slots is found by their tags alone.
-use Rattle.std.proofs.Common.{◌≡◌, ℕ, suc, ◌<◌, Bool, false, cond, eqb, ltb, ◌≢◌, ◌⊎◌, List, [], ◌∷◌, length, get_or, take, drop, Some, None, Option, sym, refl, ap, ◌∙◌, inl, inr, arith}
+use Rattle.std.proofs.Common.{◌≡◌, ℕ, suc, ◌<◌, ◌+◌, Bool, true, false, not, cond, count_by, eqb, ltb, ◌≢◌, ◌⊎◌, List, [], ◌∷◌, length, get_or, take, drop, Some, None, Option, sym, refl, ap, ◌∙◌, inl, inr, arith}
 use Rattle.books.specs.Gathered.{lower, lowest_above, occupied, standing}
 use Rattle.books.specs.Meanings.{Rec}
 use Rattle.refusals.specs.Faults.{when}
@@ -7,7 +7,31 @@ use Rattle.slot_book.specs.Found.{lowest_tag, slot_of, used}
 use Rattle.slot_book.specs.Slots.{no_slot, place_of, places, row_of, rows}
 use Rattle.slot_book.specs.declared.slots.Slot.{Slot}
 use Rattle.std.proofs.lemmas.Bool.{cases_eq, cond-false, cond-true, eq-eqb, le-ltb, ne_eqb}
+use Rattle.std.proofs.lemmas.Bool.Decides.{nat_tests}
+use Rattle.std.proofs.lemmas.List.Sums.{sum_by-cons}
+use Rattle.std.specs.List.{position_or_len}
 use Rattle.std.specs.Option.{option_map}
+
+-- the first slot of a tag is this one, or the first of those after it
+pub slot_of-cons : (t : ℕ) (s : Slot) (ss : List Slot) → slot_of t (s ∷ ss) ≡ cond (eqb s.tag t) (Some 0) (option_map suc (slot_of t ss))
+unfolding slot_of
+slot_of-cons t s ss = step (eqb s.tag t) (position_or_len (λ (x : Slot). eqb x.tag t) ss) (length ss)
+  where
+    next : (m l : ℕ) (b : Bool) → ltb m l ≡ b → cond (ltb (1 + m) (suc l)) (Some (1 + m)) None ≡ option_map suc (cond b (Some m) None)
+    next m l true e = grind (arith, nat_tests)
+    next m l false e = grind (arith, nat_tests)
+
+    step : (b : Bool) (m l : ℕ) → cond (ltb (cond (not b) (1 + m) 0) (suc l)) (Some (cond (not b) (1 + m) 0)) None ≡ cond b (Some 0) (option_map suc (cond (ltb m l) (Some m) None))
+    step true m l = grind (arith, nat_tests)
+    step false m l = next m l (ltb m l) refl
+
+pub used-cons : (s : Slot) (ss : List Slot) → used (s ∷ ss) ≡ cond (eqb s.tag 0) (used ss) (suc (used ss))
+unfolding used
+used-cons s ss = sum_by-cons (λ (x : Slot). cond (not (eqb x.tag 0)) 1 0) s ss ∙ step (eqb s.tag 0) (count_by (λ (x : Slot). not (eqb x.tag 0)) ss)
+  where
+    step : (b : Bool) (n : ℕ) → cond (not b) 1 0 + n ≡ cond b n (suc n)
+    step true n = omega arith
+    step false n = omega arith
 
 module _ {R : Type 0} (w : ℕ) where
   pub place_none : (x : Rec R) → x.tag ≡ 0 → place_of x ≡ None
@@ -25,7 +49,9 @@ module _ {R : Type 0} (w : ℕ) where
       → standing t (places w ss cs) ≡ option_map (λ (k : ℕ). get_or (rows w ss cs) k d) (slot_of t ss)
   unfolding rows slot_of standing
   standing_slot t d nt [] cs = refl
-  standing_slot t d nt (s ∷ ss) cs = go (cases_eq s.tag 0) (cases_eq s.tag t) (standing_slot t d nt ss (drop w cs))
+  standing_slot t d nt (s ∷ ss) cs =
+      go (cases_eq s.tag 0) (cases_eq s.tag t) (standing_slot t d nt ss (drop w cs))
+      ∙ sym (ap (option_map (λ (k : ℕ). get_or (rows w (s ∷ ss) cs) k d)) (slot_of-cons t s ss))
     where
       later : (s.tag ≡ t → ⊥) → standing t (places w ss (drop w cs)) ≡ option_map (λ (k : ℕ). get_or (rows w ss (drop w cs)) k d) (slot_of t ss)
           → standing t (places w ss (drop w cs)) ≡ option_map (λ (k : ℕ). get_or (row_of s (take w cs) ∷ rows w ss (drop w cs)) k d) (cond (eqb s.tag t) (Some 0) (option_map suc (slot_of t ss)))
@@ -51,7 +77,7 @@ module _ {R : Type 0} (w : ℕ) where
   pub occupied_used : (ss : List Slot) (cs : List R) → occupied (places w ss cs) ≡ used ss
   unfolding occupied rows used
   occupied_used [] cs = refl
-  occupied_used (s ∷ ss) cs = go (cases_eq s.tag 0) (occupied_used ss (drop w cs))
+  occupied_used (s ∷ ss) cs = go (cases_eq s.tag 0) (occupied_used ss (drop w cs)) ∙ sym (used-cons s ss)
     where
       go : (s.tag ≡ 0) ⊎ (s.tag ≢ 0) → occupied (places w ss (drop w cs)) ≡ used ss
           → occupied (place_of (row_of s (take w cs)) ∷ places w ss (drop w cs)) ≡ cond (eqb s.tag 0) (used ss) (suc (used ss))
@@ -82,27 +108,20 @@ module _ {R : Type 0} (w : ℕ) where
 -- the slot that is found has the tag, and lies within
 pub slot_found : (t : ℕ) (ss : List Slot) (k : ℕ) → slot_of t ss ≡ Some k → (k < length ss) × ((get_or ss k no_slot).tag ≡ t)
 unfolding slot_of
-slot_found t [] k e = let z : ◌≡◌ {A = ℕ} 0 1 = cc in absurd (clash z)
-  where
-    clash : ◌≡◌ {A = ℕ} 0 1 → ⊥
-    clash q = omega arith
+slot_found t [] k e = cc
 slot_found t (s ∷ ss) k e = go (cases_eq s.tag t) (slot_of t ss) refl (λ j f. slot_found t ss j f)
   where
-    clash : ◌≡◌ {A = ℕ} 0 1 → ⊥
-    clash q = omega arith
-
     go : (s.tag ≡ t) ⊎ (s.tag ≢ t) → (o : Option ℕ) → slot_of t ss ≡ o → ((j : ℕ) → slot_of t ss ≡ Some j → (j < length ss) × ((get_or ss j no_slot).tag ≡ t))
         → (k < length (s ∷ ss)) × ((get_or (s ∷ ss) k no_slot).tag ≡ t)
     go (inl h) o f ih =
-        let z = sym e ∙ cond-true (eqb s.tag t) (Some 0) (option_map suc (slot_of t ss)) (eq-eqb s.tag t h) in
+        let z = sym e ∙ slot_of-cons t s ss ∙ cond-true (eqb s.tag t) (Some 0) (option_map suc (slot_of t ss)) (eq-eqb s.tag t h) in
         let n : k ≡ 0 = cc in
         (omega arith, ap (λ (j : ℕ). (get_or (s ∷ ss) j no_slot).tag) n ∙ h)
     go (inr ne) None f ih =
-        let z = sym e ∙ cond-false (eqb s.tag t) (Some 0) (option_map suc (slot_of t ss)) (ne_eqb s.tag t ne) ∙ ap (option_map suc) f in
-        let q : ◌≡◌ {A = ℕ} 0 1 = cc in
-        absurd (clash q)
+        let z = sym e ∙ slot_of-cons t s ss ∙ cond-false (eqb s.tag t) (Some 0) (option_map suc (slot_of t ss)) (ne_eqb s.tag t ne) ∙ ap (option_map suc) f in
+        cc
     go (inr ne) (Some j) f ih =
-        let z = sym e ∙ cond-false (eqb s.tag t) (Some 0) (option_map suc (slot_of t ss)) (ne_eqb s.tag t ne) ∙ ap (option_map suc) f in
+        let z = sym e ∙ slot_of-cons t s ss ∙ cond-false (eqb s.tag t) (Some 0) (option_map suc (slot_of t ss)) (ne_eqb s.tag t ne) ∙ ap (option_map suc) f in
         let n : k ≡ suc j = cc in
         let r = ih j f in
         (omega (arith, r.0), ap (λ (i : ℕ). (get_or (s ∷ ss) i no_slot).tag) n ∙ r.1)

@@ -1,16 +1,13 @@
 // Cells written one after another.
 
-ghost use Rattle.std.specs.Prelude.{◌≡◌, ◌+◌, ◌≤◌, length, replicate};
-ghost use Rattle.std.proofs.Math.Seq.{paste};
+ghost use Rattle.std.specs.Prelude.{◌≡◌, length, replicate};
 
 use readings::kinds::Reading;
 
-// Makes this many cells blank, from cell `start` on.
-pub(crate) fn blank_cells<R: Reading>(cells: &mut [R], start: usize, count: usize)
-    requires { start + count ≤ length cells.old }
-    ensures { cells.new ≡ paste cells.old start (replicate count R.Reading.kind.blank) count }
+// Makes every cell blank.
+pub(crate) fn blank_cells<R: Reading>(cells: &mut [R])
+    ensures { cells.new ≡ replicate (length cells.old) R.Reading.kind.blank }
 {
-    for i in 0..count {
-        cells[start + i] = R::blank();
-    }
+    // a closure: no proof is made of `R::blank` passed by its name, and `fill` asks what `Copy` does not tell of a clone
+    cells.fill_with(|| R::blank());
 }

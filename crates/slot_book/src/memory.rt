@@ -4,7 +4,6 @@ ghost use Rattle.slot_book.specs.Slots.{valid_slots};
 ghost use Rattle.std.specs.Prelude.{◌≡◌, true};
 
 use crate::slots::Slot;
-use readings::kinds::Reading;
 
 // memory checked and opened
 pub mod opened;
@@ -12,12 +11,10 @@ pub mod opened;
 // the questions
 pub mod asked;
 
-// one slot or one cell written
-mod written;
-
 // the changes
 pub mod changed;
 
+// The readings stand beside the slots, by a rule of the project: the caller lends both, and a width is known only as a book opens.
 #[derive(Drop)]
 pub struct SlotBook<'a, R> {
     slots: &'a mut [Slot],

@@ -1,7 +1,6 @@
-mod Decimal
+mod Laid
 mod Puts
 mod Spacing
 mod Subsets
 mod Telling
 mod Widths
-mod Wrote

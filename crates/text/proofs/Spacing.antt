@@ -1,11 +1,12 @@
 -- Numbers with one space between, as one more comes at the end.
-use Rattle.std.proofs.Common.{◌≡◌, ℕ, ◌+◌, ◌-◌, ◌^◌, ◌<◌, ◌≤◌, Bool, true, false, cond, List, [], ◌∷◌, ◌++◌, length, codes, decimal, sym, refl, ap, ◌∙◌, inl, append_assoc, append-nil, arith, length-append}
+use Rattle.std.proofs.Common.{◌≡◌, ℕ, ◌+◌, ◌-◌, ◌^◌, ◌<◌, ◌≤◌, Bool, true, false, cond, List, [], ◌∷◌, ◌++◌, ◌==◌, length, codes, decimal, sym, refl, ap, ◌∙◌, inl, append_assoc, append-nil, arith, length-append}
 use Rattle.std.proofs.lemmas.Fmt.{decimal_nonempty}
-use Rattle.std.proofs.lemmas.Bool.{cond-true, cond-false, ne_eqb}
+use Rattle.std.proofs.lemmas.Bool.{le-leb, ne_eqb}
 use Rattle.text.proofs.Subsets.{among_has, tests_to}
-use Rattle.text.specs.Printed.{listed, next_test, spaced, trail}
+use Rattle.text.specs.Printed.{next_test, spaced, trail}
 use Rattle.text.specs.Sets.{is_in, tests_from}
 use Rattle.sets.specs.Lists.{In}
+use Rattle.sets.specs.Sets.{has_test}
 
 -- the numbers of the list fit 64 bits, so that `decimal` writes them whole
 abbrev pub Small : List ℕ → Type 0
@@ -19,6 +20,10 @@ trail_append (j ∷ js) ks =
 
 spaced_some : (j : ℕ) (js : List ℕ) → j < 2 ^ 64 → 0 < length (spaced (j ∷ js))
 spaced_some j js h = simp length-append (omega (arith, decimal_nonempty j h))
+
+-- a list with a number in it has a text of some bytes
+pub some_not_none : (j : ℕ) (js : List ℕ) → j < 2 ^ 64 → (length (spaced (j ∷ js)) == 0) ≡ false
+some_not_none j js h = ne_eqb (length (spaced (j ∷ js))) 0 (λ e. omega (arith, spaced_some j js h))
 
 -- a number after others has a space before it
 next_later : (at j : ℕ) → 0 < at → next_test at j ≡ trail (j ∷ [])
@@ -39,29 +44,29 @@ spaced_more (k ∷ js) j h =
 pub small_tests : (first n s : ℕ) → first + n ≤ 2 ^ 64 → Small (tests_from first n s)
 small_tests first n s h j m = let r = among_has first n s j m in omega arith
 
+pub tests_none : (first s : ℕ) → tests_from first 0 s ≡ []
+unfolding tests_from
+tests_none first s = refl
+
+-- a test of 1 to 32, as the sets crate tells it
+has_is_in : (test s : ℕ) → 0 < test → test ≤ 32 → has_test s test ≡ is_in test s
+has_is_in test s low high = rw (le-leb 1 test (omega arith), le-leb test 32 high) refl
+
 -- the tests below the next number: one more where this one is in the set
-pub tests_in_more : (test s : ℕ) → 0 < test → test < 2 ^ 32 → is_in test s ≡ true
+pub tests_next : (test s : ℕ) → 0 < test → test ≤ 32
     → spaced (tests_from 1 (test + 1 - 1) s)
-    ≡ spaced (tests_from 1 (test - 1) s) ++ next_test (length (spaced (tests_from 1 (test - 1) s))) test
-tests_in_more test s low high e =
-    let before = tests_from 1 (test - 1) s in
-    ap spaced (tests_to test s low ∙ ap (λ (js : List ℕ). before ++ js) (cond-true (is_in test s) _ _ e))
-    ∙ spaced_more before test (small_tests 1 (test - 1) s (omega arith))
+    ≡ cond (has_test s test)
+    (spaced (tests_from 1 (test - 1) s) ++ next_test (length (spaced (tests_from 1 (test - 1) s))) test)
+    (spaced (tests_from 1 (test - 1) s))
+tests_next test s low high =
+    ap spaced (tests_to test s low)
+    ∙ go (is_in test s)
+    ∙ ap (λ (b : Bool). cond b (spaced before ++ next_test (length (spaced before)) test) (spaced before)) (sym (has_is_in test s low high))
+  where
+    before : List ℕ
+    before = tests_from 1 (test - 1) s
 
--- and none where it is not
-pub tests_out_more : (test s : ℕ) → 0 < test → is_in test s ≡ false
-    → tests_from 1 (test + 1 - 1) s ≡ tests_from 1 (test - 1) s
-tests_out_more test s low e =
-    let before = tests_from 1 (test - 1) s in
-    tests_to test s low
-    ∙ ap (λ (js : List ℕ). before ++ js) (cond-false (is_in test s) _ _ e)
-    ∙ append-nil before
-
--- a text of no bytes lists nothing
-pub none_from_spaced : (js : List ℕ) → Small js → length (spaced js) ≡ 0 → js ≡ []
-none_from_spaced [] h e = refl
-none_from_spaced (j ∷ js) h e = absurd (omega (arith, spaced_some j js (h j (inl refl))))
-
-pub listed_some : (js : List ℕ) → (length (spaced js) ≡ 0 → ⊥) → listed js ≡ spaced js
-listed_some [] h = absurd (h refl)
-listed_some (j ∷ js) h = refl
+    go : (b : Bool) → spaced (before ++ cond b (test ∷ []) [])
+        ≡ cond b (spaced before ++ next_test (length (spaced before)) test) (spaced before)
+    go true = spaced_more before test (small_tests 1 (test - 1) s (omega arith))
+    go false = ap spaced (append-nil before)

@@ -1,7 +1,7 @@
 -- The tests of a set, one by one: one more at the high end, the lowest, and that none is left out.
 use Rattle.std.proofs.Common.{◌≡◌, ℕ, zero, suc, ◌+◌, ◌-◌, ◌/◌, ◌%◌, ◌^◌, ◌<◌, ◌≤◌, Bool, true, false, cond, List, [], ◌∷◌, ◌++◌, sym, refl, ap, ◌∙◌, inl, inr, add-zero, arith, pow_mono}
 use Rattle.std.specs.List.{AllByRecursion as Every}
-use Rattle.std.proofs.lemmas.Bool.{cases_Bool, cases_eq, eqb-true, eq-eqb, cond-true, cond-false, cond_both}
+use Rattle.std.proofs.lemmas.Bool.{cases_Bool, cases_eq, eqb-true, eq-eqb, cond_both}
 use Rattle.text.specs.Sets.{Has, is_in, tests_from}
 use Rattle.sets.specs.Lists.{In, Rising}
 use native.Mathlib.Nat.{div-eq_of_lt}
@@ -33,28 +33,6 @@ tests_to test s low =
     ap (λ (n : ℕ). tests_from 1 n s) all
     ∙ tests_more 1 (test - 1) s
     ∙ ap (λ (j : ℕ). tests_from 1 (test - 1) s ++ single j s) last
-
-from_first : (first last : ℕ) → first < last → last - first ≡ suc (last - (first + 1))
-from_first first last h = omega arith
-
--- the first of those below `last`, in or not
-pub tests_in : (first last s : ℕ) → first < last → is_in first s ≡ true
-    → tests_from first (last - first) s ≡ first ∷ tests_from (first + 1) (last - (first + 1)) s
-unfolding tests_from
-tests_in first last s h e =
-    ap (λ (n : ℕ). tests_from first n s) (from_first first last h)
-    ∙ cond-true (is_in first s) _ _ e
-
-pub tests_out : (first last s : ℕ) → first < last → is_in first s ≡ false
-    → tests_from first (last - first) s ≡ tests_from (first + 1) (last - (first + 1)) s
-unfolding tests_from
-tests_out first last s h e =
-    ap (λ (n : ℕ). tests_from first n s) (from_first first last h)
-    ∙ cond-false (is_in first s) _ _ e
-
-pub tests_end : (first last s : ℕ) → last ≤ first → tests_from first (last - first) s ≡ []
-unfolding tests_from
-tests_end first last s h = let e : last - first ≡ 0 = omega arith in ap (λ (n : ℕ). tests_from first n s) e
 
 -- what is listed is in the set, and among those looked at
 pub among_has : (first n s j : ℕ) → In (tests_from first n s) j → (first ≤ j) × (j < first + n) × Has j s

@@ -1,15 +1,14 @@
--- What the checks tell of the set and of the buffer.
-use Rattle.std.proofs.Common.{◌≡◌, ℕ, ◌^◌, ◌<◌, ◌≤◌, ◌⊎◌, List, [], ◌∷◌, Ok, Err, Option, Result, refl, ◌∙◌, inl, inr, arith}
-use Rattle.std.proofs.lemmas.Bool.{cases_lt, le-ltb, lt-ltb}
+-- What the checks tell of the set.
+use Rattle.std.proofs.Common.{◌≡◌, ℕ, ◌^◌, ◌<◌, ◌≤◌, List, [], ◌∷◌, Some, None, refl, ap, inl, inr, arith}
+use Rattle.std.proofs.lemmas.Bool.{cases_lt}
 use Rattle.text.proofs.Subsets.{among_has, has_among, has_32, rising_tests}
-use Rattle.text.specs.Refused.{lowest_outside, room_fault, test_fault}
-use Rattle.refusals.specs.Faults.{or_else, passed}
+use Rattle.text.specs.Refused.{lowest_outside, test_fault}
 use Rattle.text.specs.Sets.{Has, tests_from}
 use Rattle.sets.specs.Lists.{In, Rising}
+use Rattle.sets.specs.Sets.{LowestAbove}
 use Rattle.std.specs.List.{AllByRecursion as Every}
-use Rattle.text.specs.Told.{Lists, Lowest, Plain, Refuses}
-use Rattle.text.specs.declared.faults.TextFault.TheVariants.{Outside, Room}
-use Rattle.text.specs.declared.faults.TextFault.{TextFault}
+use Rattle.text.specs.Told.{Lists, Plain}
+use Rattle.text.specs.declared.faults.TextFault.TheVariants.{Outside}
 
 above_among : (j : ℕ) (ks : List ℕ) (k : ℕ) → Every (λ y. j < y) ks → In ks k → j < k
 above_among j [] k a m = absurd m
@@ -21,21 +20,34 @@ outside_among s small j high h =
     elim (cases_lt 32 j)
     [ inl l ↦ absurd (has_32 s j small l h) | inr l ↦ has_among 25 8 s j (omega arith) (omega arith) h ]
 
--- the first of them is the lowest
-lowest_first : (s j : ℕ) (js : List ℕ) → s < 2 ^ 32 → tests_from 25 8 s ≡ j ∷ js → Lowest j s
-lowest_first s j js small e =
-    let m : In (tests_from 25 8 s) j = rw e (inl refl) in
-    let up : Rising (j ∷ js) = rw e at (rising_tests 25 8 s) in
-    record {
-      outside = omega (arith, (among_has 25 8 s j m).0);
-      has = (among_has 25 8 s j m).2;
-      lowest = λ k high h.
-          let n : In (j ∷ js) k = rw e at (outside_among s small k high h) in
-          elim n [ inl g ↦ omega arith | inr g ↦ omega (arith, above_among j js k up.0 g) ];
-    }
+-- a set with no test above 24 has no fault
+pub none_fault : (s : ℕ) → LowestAbove s 24 None → test_fault s ≡ None
+none_fault s none = go (tests_from 25 8 s) refl
+  where
+    go : (js : List ℕ) → tests_from 25 8 s ≡ js → lowest_outside js ≡ None
+    go [] e = refl
+    go (j ∷ js) e =
+        let m = among_has 25 8 s j (rw e (inl refl)) in
+        absurd (none j (omega (arith, m.0)) m.2)
 
-pub plain_none : (s : ℕ) → s < 2 ^ 32 → tests_from 25 8 s ≡ [] → Plain s
-plain_none s small e = λ j high h. rw e at (outside_among s small j high h)
+-- the lowest test above 24 is the first of those that are looked at
+pub some_fault : (s test : ℕ) → s < 2 ^ 32 → LowestAbove s 24 (Some test) → test_fault s ≡ Some (Outside test)
+some_fault s test small low = go (tests_from 25 8 s) refl
+  where
+    among : In (tests_from 25 8 s) test
+    among = outside_among s small test low.0 low.1
+
+    go : (js : List ℕ) → tests_from 25 8 s ≡ js → lowest_outside js ≡ Some (Outside test)
+    go [] e = absurd (rw e at among)
+    go (j ∷ js) e =
+        let m = among_has 25 8 s j (rw e (inl refl)) in
+        let up : Rising (j ∷ js) = rw e at (rising_tests 25 8 s) in
+        let n : In (j ∷ js) test = rw e at among in
+        let above : j ≤ test = elim n [ inl g ↦ omega arith | inr g ↦ omega (arith, above_among j js test up.0 g) ] in
+        elim (cases_lt j test) [
+          | inl l ↦ absurd (low.2 j (omega (arith, m.0)) l m.2)
+          | inr l ↦ let same : j ≡ test = omega arith in ap (λ (k : ℕ). Some (Outside k)) same
+        ]
 
 pub lists_plain : (s : ℕ) → Plain s → Lists (tests_from 1 24 s) s
 lists_plain s none = record {
@@ -45,31 +57,4 @@ lists_plain s none = record {
       elim (cases_lt 24 j) [ inl l ↦ absurd (none j l h) | inr l ↦ has_among 1 24 s j low (omega arith) h ];
 }
 
--- a set that passes has no test above 24
-pub none_from_ok : (js : List ℕ) (u : Unit {0}) → Ok u ≡ passed (lowest_outside js) → js ≡ []
-none_from_ok [] u e = refl
-none_from_ok (j ∷ js) u e = absurd (let z : ◌≡◌ {A = ℕ} 0 1 = cc in omega arith)
-
--- a set that does not pass is refused by its lowest test above 24, whatever else is at fault
-pub outside_answer : (js : List ℕ) (fault : TextFault) (next : Option TextFault) → Err fault ≡ passed (lowest_outside js)
-    → Err fault ≡ passed (or_else (lowest_outside js) next)
-outside_answer [] fault next e = absurd (let z : ◌≡◌ {A = ℕ} 0 1 = cc in omega arith)
-outside_answer (j ∷ js) fault next e = e
-
-outside_refuses : (s : ℕ) (js : List ℕ) (fault : TextFault) → s < 2 ^ 32 → tests_from 25 8 s ≡ js
-    → Err fault ≡ passed (lowest_outside js) → Refuses s fault
-outside_refuses s [] fault small at e = absurd (let z : ◌≡◌ {A = ℕ} 0 1 = cc in omega arith)
-outside_refuses s (j ∷ js) fault small at e = let f : fault ≡ Outside j = cc in rw f (lowest_first s j js small at)
-
-pub refuses_outside : (s : ℕ) (fault : TextFault) → s < 2 ^ 32 → Err fault ≡ passed (test_fault s)
-    → Refuses s fault
-refuses_outside s fault small e = outside_refuses s (tests_from 25 8 s) fault small refl e
-
--- a buffer has room, or is at fault
-pub room_or_fault : (size : ℕ) {r : Result (Unit {0}) TextFault} → r ≡ passed (room_fault size)
-    → ((r ≡ Ok tt) × (64 ≤ size)) ⊎ (r ≡ Err Room)
-room_or_fault size {r} e =
-    elim (cases_lt size 64) [
-      | inl h ↦ inr (e ∙ rw (lt-ltb size 64 h))
-      | inr h ↦ inl (e ∙ rw (le-ltb size 64 h), h)
-    ]
+pub ruleset fault_told = (none_fault, some_fault)

@@ -1,9 +1,8 @@
 // What a line is refused for, looked at before a byte is written.
 
 ghost use Rattle.std.specs.Prelude.{◌≡◌, ◌≤◌, OnOk};
-ghost use Rattle.text.specs.Refused.{plan_fault, room_fault, test_fault};
+ghost use Rattle.text.specs.Refused.{plan_fault, room_fault};
 ghost use Rattle.refusals.specs.Faults.{passed};
-ghost use Rattle.text.specs.Sets.{is_in};
 ghost use Rattle.text.specs.Told.{Passes};
 
 use crate::faults::TextFault;
@@ -11,11 +10,12 @@ use crate::faults::TextFault;
 // Every line fits into this many bytes.
 const ROOM: usize = 64;
 
-// The lowest test that no plan has.
-pub(crate) const OUTSIDE: u32 = 25;
+// The highest test that a plan can have.
+pub(crate) const HIGHEST: u32 = 24;
 
 pub(crate) fn check_room(size: usize) -> Result<(), TextFault>
-    ensures { result ≡ passed (room_fault size) }
+    ensures answer { result ≡ passed (room_fault size) }
+    ensures room { OnOk result (64 ≤ size) }
 {
     if size < ROOM {
         Err(TextFault::Room)
@@ -25,29 +25,14 @@ pub(crate) fn check_room(size: usize) -> Result<(), TextFault>
 }
 
 // The refusals in rising order of their numbers.
+#[tactic(auto, using(crate::proofs::Telling::fault_told))]
 pub(crate) fn check_plan(tests: u32, size: usize) -> Result<(), TextFault>
     ensures answer { result ≡ passed (plan_fault tests size) }
     ensures room { OnOk result (64 ≤ size) }
     ensures told { Passes tests result }
 {
-    check_tests(tests)?;
-    check_room(size)
-}
-
-fn check_tests(tests: u32) -> Result<(), TextFault>
-    ensures { result ≡ passed (test_fault tests) }
-{
-    for test in OUTSIDE..33 {
-        if contains(tests, test) {
-            return Err(TextFault::Outside { test });
-        }
+    match sets::lowest_above(tests, HIGHEST) {
+        Some(test) => Err(TextFault::Outside { test }),
+        None => check_room(size),
     }
-    Ok(())
-}
-
-pub(crate) fn contains(tests: u32, test: u32) -> bool
-    requires { (1 ≤ test) × (test ≤ 32) }
-    ensures { result ≡ is_in test tests }
-{
-    tests >> (test - 1) & 1 == 1
 }

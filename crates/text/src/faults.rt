@@ -1,8 +1,9 @@
 // The faults of a line of text, each with its number, origin and place.
 
+ghost use Rattle.std.specs.Prelude.{◌≡◌};
 ghost use Rattle.text.specs.Refused.{text_line};
 
-use refusals::{Fault, Origin, Place, Refusal};
+use refusals::{Origin, Refusal};
 
 // A line that is not written.
 #[derive(Clone, Copy, PartialEq, Eq, Debug)]
@@ -13,21 +14,14 @@ pub enum TextFault {
     Room,
 }
 
-impl Fault for TextFault {
-    ghost line = { text_line };
+// The fault's line of the refusal table.
+impl From<TextFault> for Refusal {
+    ghost from_gives = { λ fault r. r ≡ text_line fault };
 
-    fn refusal(&self) -> Refusal {
-        match *self {
-            TextFault::Outside { test } => Refusal {
-                number: 8,
-                origin: Origin::Text,
-                place: Place::At(u64::from(test)),
-            },
-            TextFault::Room => Refusal {
-                number: 16,
-                origin: Origin::Text,
-                place: Place::At(0),
-            },
+    fn from(fault: TextFault) -> Refusal {
+        match fault {
+            TextFault::Outside { test } => Refusal::at(8, Origin::Text, test.into()),
+            TextFault::Room => Refusal::at(16, Origin::Text, 0),
         }
     }
 }

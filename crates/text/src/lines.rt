@@ -1,28 +1,37 @@
 // The three lines. Each is written from the start of the buffer, and ends in a line feed.
 
-ghost use Rattle.std.specs.Prelude.{◌≡◌, ◌+◌, ◌<◌, ◌≤◌, length, IfOk};
+ghost use Rattle.std.specs.Prelude.{◌≡◌, ◌<◌, ◌≤◌, length, IfOk};
 ghost use Rattle.refusals.specs.Faults.{answered};
-ghost use Rattle.text.specs.Printed.{head_line, next_test, of_page, page_place, plan_line, refusal_line, spaced};
-ghost use Rattle.text.specs.Refused.{laid, plan_fault, room_fault, written};
+ghost use Rattle.text.specs.Grown.{Grown, HasRoom};
+ghost use Rattle.text.specs.Printed.{head_line, next_test, plan_line, refusal_line, spaced};
+ghost use Rattle.text.specs.Refused.{plan_fault, room_fault, written};
 ghost use Rattle.text.specs.Sets.{tests_from};
-ghost use Rattle.text.specs.Told.{Lists, Plain, Tells};
-ghost use Rattle.std.proofs.lemmas.List.Edits.{sets};
+ghost use Rattle.text.specs.Told.{Tells};
 
-use crate::checks::{OUTSIDE, check_plan, check_room, contains};
+use crate::checks::{HIGHEST, check_plan, check_room};
 use crate::faults::TextFault;
-use crate::writing::{put_bytes, put_number};
+use crate::writing::Line;
 
 // `plans 12`, or `plans 12 over`: how many plans there are, and whether there were too few places for them.
+#[tactic(auto, using(crate::proofs::Laid::head_put))]
 pub fn head_line(buffer: &mut [u8], count: u32, over: bool) -> Result<usize, TextFault>
     ensures answer { result ≡ answered (room_fault (length buffer.old)) (length (head_line count over)) }
     ensures after { buffer.new ≡ written result (head_line count over) buffer.old }
     ensures within { IfOk result (λ n. n < 64) }
 {
     check_room(buffer.len())?;
-    Ok(put_head(buffer, count, over))
+    let mut line = Line::new(buffer);
+    line.push_str("plans ");
+    line.push_number(count);
+    if over {
+        line.push_str(" over");
+    }
+    line.push_str("\n");
+    Ok(line.len())
 }
 
 // The plan's tests by their numbers, rising, with one space between; `-` for no test.
+#[tactic(auto, using(crate::proofs::Laid::plan_put))]
 pub fn plan_line(buffer: &mut [u8], tests: u32) -> Result<usize, TextFault>
     ensures answer { result ≡ answered (plan_fault tests (length buffer.old)) (length (plan_line tests)) }
     ensures after { buffer.new ≡ written result (plan_line tests) buffer.old }
@@ -30,10 +39,18 @@ pub fn plan_line(buffer: &mut [u8], tests: u32) -> Result<usize, TextFault>
     ensures told { Tells tests result }
 {
     check_plan(tests, buffer.len())?;
-    Ok(put_plan(buffer, tests))
+    let mut line = Line::new(buffer);
+    push_tests(&mut line, tests);
+    if line.is_empty() {
+        line.push_str("-");
+    }
+    line.push_str("\n");
+    Ok(line.len())
 }
 
 // `refused 9`; a page's refusals, 3 and 4, name their place too: `refused 3 record 1 byte 2`.
+// Number, record and byte are 32-bit numbers of whatever value: a rule of the project.
+#[tactic(auto, using(crate::proofs::Laid::refusal_put))]
 pub fn refusal_line(
     buffer: &mut [u8],
     number: u32,
@@ -45,99 +62,40 @@ pub fn refusal_line(
     ensures within { IfOk result (λ n. n < 64) }
 {
     check_room(buffer.len())?;
-    Ok(put_refusal(buffer, number, record, byte))
-}
-
-fn put_head(buffer: &mut [u8], count: u32, over: bool) -> usize
-    requires { 64 ≤ length buffer.old }
-    ensures next { result ≡ length (head_line count over) }
-    ensures after { buffer.new ≡ laid (head_line count over) buffer.old }
-    ensures within { result < 64 }
-{
-    let named = put_bytes(buffer, 0, b"plans ");
-    let counted = put_number(buffer, named, count);
-    let end = if over {
-        put_bytes(buffer, counted, b" over")
-    } else {
-        counted
-    };
-    put_bytes(buffer, end, b"\n")
-}
-
-fn put_plan(buffer: &mut [u8], tests: u32) -> usize
-    requires { (64 ≤ length buffer.old) × (Plain tests) }
-    ensures next { result ≡ length (plan_line tests) }
-    ensures after { buffer.new ≡ laid (plan_line tests) buffer.old }
-    ensures within { result < 64 }
-    ensures told { Lists (tests_from 1 24 tests) tests }
-{
-    let listed = put_tests(buffer, tests);
-    let end = if listed == 0 {
-        put_bytes(buffer, 0, b"-")
-    } else {
-        listed
-    };
-    put_bytes(buffer, end, b"\n")
+    let mut line = Line::new(buffer);
+    line.push_str("refused ");
+    line.push_number(number);
+    if matches!(number, 3 | 4) {
+        line.push_str(" record ");
+        line.push_number(record);
+        line.push_str(" byte ");
+        line.push_number(byte);
+    }
+    line.push_str("\n");
+    Ok(line.len())
 }
 
 // The tests of 1 to 24 that are in the set, from the start of the buffer.
-fn put_tests(buffer: &mut [u8], tests: u32) -> usize
-    requires { 64 ≤ length buffer.old }
-    ensures next { result ≡ length (spaced (tests_from 1 24 tests)) }
-    ensures after { buffer.new ≡ sets buffer.old 0 (spaced (tests_from 1 24 tests)) }
+fn push_tests(line: &mut Line, tests: u32)
+    requires empty { line.old.len ≡ 0 }
+    requires room { 64 ≤ length line.old.buffer.now }
+    ensures { Grown line.old (spaced (tests_from 1 24 tests)) line.new }
 {
-    let mut at = 0;
-    for test in 1..OUTSIDE {
-        if contains(tests, test) {
-            at = put_test(buffer, at, test);
+    for test in 1..=HIGHEST {
+        if sets::has(tests, test) {
+            push_test(line, test);
         }
     }
-    at
 }
 
 // One more test; only the first has no space before it.
-fn put_test(buffer: &mut [u8], at: usize, test: u32) -> usize
-    requires { at + length (next_test at test) ≤ length buffer.old }
-    ensures next { result ≡ at + length (next_test at test) }
-    ensures after { buffer.new ≡ sets buffer.old at (next_test at test) }
+#[tactic(auto, using(crate::proofs::Laid::test_put))]
+fn push_test(line: &mut Line, test: u32)
+    requires { HasRoom line.old (next_test line.old.len test) }
+    ensures { Grown line.old (next_test line.old.len test) line.new }
 {
-    let start = if at == 0 {
-        at
-    } else {
-        put_bytes(buffer, at, b" ")
-    };
-    put_number(buffer, start, test)
-}
-
-fn put_refusal(buffer: &mut [u8], number: u32, record: u32, byte: u32) -> usize
-    requires { 64 ≤ length buffer.old }
-    ensures next { result ≡ length (refusal_line number «record» byte) }
-    ensures after { buffer.new ≡ laid (refusal_line number «record» byte) buffer.old }
-    ensures within { result < 64 }
-{
-    let named = put_bytes(buffer, 0, b"refused ");
-    let numbered = put_number(buffer, named, number);
-    let end = if is_of_page(number) {
-        put_page_place(buffer, numbered, record, byte)
-    } else {
-        numbered
-    };
-    put_bytes(buffer, end, b"\n")
-}
-
-fn is_of_page(number: u32) -> bool
-    ensures { result ≡ of_page number }
-{
-    number == 3 || number == 4
-}
-
-fn put_page_place(buffer: &mut [u8], at: usize, record: u32, byte: u32) -> usize
-    requires { at + length (page_place «record» byte) ≤ length buffer.old }
-    ensures next { result ≡ at + length (page_place «record» byte) }
-    ensures after { buffer.new ≡ sets buffer.old at (page_place «record» byte) }
-{
-    let of_record = put_bytes(buffer, at, b" record ");
-    let recorded = put_number(buffer, of_record, record);
-    let of_byte = put_bytes(buffer, recorded, b" byte ");
-    put_number(buffer, of_byte, byte)
+    if !line.is_empty() {
+        line.push_str(" ");
+    }
+    line.push_number(test);
 }

@@ -6,15 +6,9 @@ use std::test::Fail;
 
 // The line, and then nothing but the dots that were there.
 fn shows(buffer: &[u8], line: &[u8]) -> bool {
-    if buffer.len() < line.len() {
-        return false;
-    }
-    for b in &buffer[line.len()..] {
-        if *b != b'.' {
-            return false;
-        }
-    }
-    &buffer[0..line.len()] == line
+    buffer
+        .strip_prefix(line)
+        .is_some_and(|rest| rest.iter().all(|b| *b == b'.'))
 }
 
 #[test]

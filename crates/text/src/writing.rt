@@ -1,36 +1,49 @@
-// Bytes and numbers put at a place of a buffer; each answers the place after what it wrote.
+// A line that grows in a caller's buffer, from its start.
 
-ghost use Rattle.std.specs.Prelude.{◌≡◌, ◌+◌, ◌%◌, ◌≤◌, length, decimal};
-ghost use Rattle.std.proofs.lemmas.List.Edits.{sets};
+ghost use Rattle.std.specs.Prelude.{◌≡◌, ◌==◌, decimal};
+ghost use Rattle.text.specs.Grown.{Grown, HasRoom};
 
-pub(crate) fn put_bytes(buffer: &mut [u8], at: usize, bytes: &[u8]) -> usize
-    requires { at + length bytes.now ≤ length buffer.old }
-    ensures next { result ≡ at + length bytes.now }
-    ensures after { buffer.new ≡ sets buffer.old at bytes.now }
-{
-    for (i, byte) in bytes.iter().enumerate() {
-        buffer[at + i] = *byte;
+#[derive(Drop)]
+pub(crate) struct Line<'a> {
+    buffer: &'a mut [u8],
+    len: usize,
+}
+
+impl<'a> Line<'a> {
+    pub(crate) fn new(buffer: &'a mut [u8]) -> Line<'a>
+        ensures same_buffer { result.buffer.ghost_name ≡ buffer.entry.ghost_name }
+        ensures kept { result.buffer.now ≡ buffer.old }
+        ensures empty { result.len ≡ 0 }
+    {
+        Line { buffer, len: 0 }
     }
-    at + bytes.len()
-}
 
-// The front of the number first, then its last digit.
-pub(crate) fn put_number(buffer: &mut [u8], at: usize, number: u32) -> usize
-    requires { at + length (decimal number) ≤ length buffer.old }
-    ensures next { result ≡ at + length (decimal number) }
-    ensures after { buffer.new ≡ sets buffer.old at (decimal number) }
-{
-    let ones = if number < 10 {
-        at
-    } else {
-        put_number(buffer, at, number / 10)
-    };
-    buffer[ones] = last_digit(number);
-    ones + 1
-}
+    pub(crate) fn len(&self) -> usize
+        ensures { result ≡ self.now.len }
+    {
+        self.len
+    }
 
-fn last_digit(number: u32) -> u8
-    ensures { result ≡ 48 + number % 10 }
-{
-    b'0' + (number % 10) as u8
+    pub(crate) fn is_empty(&self) -> bool
+        ensures { result ≡ self.now.len == 0 }
+    {
+        self.len == 0
+    }
+
+    #[tactic(auto, using(crate::proofs::Puts::put_mid_sets))]
+    pub(crate) fn push_str(&mut self, text: &str)
+        requires { HasRoom self.old text.now }
+        ensures { Grown self.old text.now self.new }
+    {
+        let end = self.len + text.len();
+        self.buffer[self.len..end].copy_from_slice(text.as_bytes());
+        self.len = end;
+    }
+
+    pub(crate) fn push_number(&mut self, number: u32)
+        requires { HasRoom self.old (decimal number) }
+        ensures { Grown self.old (decimal number) self.new }
+    {
+        self.push_str(itoa::Buffer::new().format(number));
+    }
 }

@@ -1,23 +1,30 @@
 // A bar's check and its tests, on small examples.
 
-use crate::bar::{bars, check_set};
+use crate::bar::bars;
 use crate::faults::BarFault;
+use sets::lowest_above;
 
 #[test]
 fn a_bar_within_the_width_passes(rt: HostRuntime) {
-    assert_eq!(rt; check_set(5, 0), Ok(()));
-    assert_eq!(rt; check_set(5, 31), Ok(()));
-    assert_eq!(rt; check_set(24, 16777215), Ok(()));
+    assert_eq!(rt; lowest_above(0, 5).map(BarFault::Outside), None);
+    assert_eq!(rt; lowest_above(31, 5).map(BarFault::Outside), None);
+    assert_eq!(rt; lowest_above(16777215, 24).map(BarFault::Outside), None);
 }
 
 #[test]
 fn a_bar_names_the_lowest_test_outside(rt: HostRuntime) {
-    assert_eq!(rt; check_set(5, 32), Err(BarFault::Outside(6)));
     assert_eq!(rt;
-        check_set(5, 2147483648 + 64 + 1),
-        Err(BarFault::Outside(7))
+        lowest_above(32, 5).map(BarFault::Outside),
+        Some(BarFault::Outside(6))
     );
-    assert_eq!(rt; check_set(24, 2147483648), Err(BarFault::Outside(32)));
+    assert_eq!(rt;
+        lowest_above(2147483648 + 64 + 1, 5).map(BarFault::Outside),
+        Some(BarFault::Outside(7))
+    );
+    assert_eq!(rt;
+        lowest_above(2147483648, 24).map(BarFault::Outside),
+        Some(BarFault::Outside(32))
+    );
 }
 
 #[test]

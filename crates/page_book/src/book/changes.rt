@@ -3,24 +3,37 @@
 ghost use Rattle.page_book.specs.Kept.{book_rewrites};
 
 use crate::book::PageBook;
-use crate::book::amended::amended;
-use crate::book::entered::entered;
-use crate::book::withdrawn::withdrawn;
+use crate::book::written::{entered, write_record};
+use crate::layout::{FREE, READINGS, RECORD};
 use books::book::Book;
 use books::faults::BookFault;
+use books::table::{check_amend, check_enter, check_withdraw};
 
 impl Book for PageBook<'_> {
     ghost rewrites = { book_rewrites };
 
+    // The lowest free record gets the bytes. Once the table passes, a record is there: `ok_or` says in a word what an `unwrap` would have to prove.
+    #[tactic(auto, using(crate::proofs::Changing::entering))]
     fn enter(&mut self, tag: u16, part: u8, readings: &[u8]) -> Result<(), BookFault> {
-        entered(self, tag, part, readings)
+        check_enter(self, tag, part, readings)?;
+        let k = self.place(FREE).ok_or(BookFault::Full)?;
+        write_record(self.page, k, &entered(tag, part, readings));
+        Ok(())
     }
 
+    #[tactic(auto, using(crate::proofs::Changing::withdrawing))]
     fn withdraw(&mut self, tag: u16) -> Result<(), BookFault> {
-        withdrawn(self, tag)
+        check_withdraw(self, tag)?;
+        let k = self.place(tag).ok_or(BookFault::NotHeld(tag))?;
+        write_record(self.page, k, &[0; RECORD]);
+        Ok(())
     }
 
+    #[tactic(auto, using(crate::proofs::Changing::amending))]
     fn amend(&mut self, tag: u16, test: u32, reading: u8) -> Result<(), BookFault> {
-        amended(self, tag, test, reading)
+        check_amend(self, tag, test, reading)?;
+        let k = self.place(tag).ok_or(BookFault::NotHeld(tag))?;
+        self.page[RECORD * k + READINGS + test as usize - 1] = reading;
+        Ok(())
     }
 }

@@ -1,17 +1,14 @@
 // The questions, answered from the page record by record.
 
-ghost use Rattle.std.specs.Prelude.{◌≡◌, ℕ, ◌+◌, ◌*◌, ◌≤◌, min, length, IfSome, nat_lt};
-ghost use Rattle.books.specs.Gathered.{lower, lowest_above, occupied};
-ghost use Rattle.books.specs.Questions.{next_tag, part_of, reading_of};
-ghost use Rattle.page_book.specs.Layout.{InSize, records_in, tag_at};
-ghost use Rattle.page_book.specs.Lowest.{lowest};
+ghost use Rattle.std.specs.Prelude.{◌≡◌, ◌+◌, ◌*◌, ◌≤◌, IfSome, count_by, filter, length, map, min, nat_lt, position};
+ghost use Rattle.std.specs.List.{reduce};
+ghost use Rattle.std.specs.Option.{option_copied};
+ghost use Rattle.page_book.specs.Layout.{has_tag, in_use, records_of, tag_at};
 ghost use Rattle.page_book.specs.Paged.{page_sound};
-ghost use Rattle.page_book.specs.Places.{page_meaning, place_of, places};
-ghost use Rattle.page_book.specs.Refused.{same_tag};
-ghost use Rattle.refusals.specs.Faults.{when};
+ghost use Rattle.page_book.specs.Places.{page_meaning, record_of};
 
 use crate::book::PageBook;
-use crate::layout::{FREE, RECORD, code_at, part_at, tag_at};
+use crate::layout::{FREE, Record, code, part as part_of, records, tag as tag_of};
 use books::shown::Shown;
 
 impl Shown for PageBook<'_> {
@@ -25,12 +22,14 @@ impl Shown for PageBook<'_> {
         self.width
     }
 
+    #[tactic(auto, using(crate::proofs::Asked::counts))]
     fn capacity(&self) -> u32 {
-        capacity_of(self)
+        records(self.page).len() as u32
     }
 
+    #[tactic(auto, using(crate::proofs::Asked::counts))]
     fn held(&self) -> u32 {
-        held_of(self)
+        count(self.page) as u32
     }
 
     fn closed_test(&self, test: u32) -> bool {
@@ -41,142 +40,66 @@ impl Shown for PageBook<'_> {
         false
     }
 
+    #[tactic(auto, using(crate::proofs::Asked::next_is))]
     fn next_tag(&self, above: u16) -> Option<u16> {
-        next_of(self, above)
+        lowest_above(self.page, above)
     }
 
+    #[tactic(auto, using(crate::proofs::Asked::part_is))]
     fn part(&self, tag: u16) -> Option<u8> {
-        part_of(self, tag)
+        record_of(self.page, tag).map(part_of)
     }
 
+    #[tactic(auto, using(crate::proofs::Asked::readings))]
     fn reading(&self, tag: u16, test: u32) -> Option<u8> {
-        reading_of(self, tag, test)
-    }
-}
-
-// The lowest record with this tag; with tag 0, the lowest free one.
-pub(crate) fn record_of(page: &[u8], tag: u16) -> Option<usize>
-    requires { InSize page.now }
-    ensures { result ≡ lowest (same_tag page.now tag) (records_in page.now) }
-{
-    for k in 0..page.len() / RECORD {
-        if tag_at(page, k) == tag {
-            return Some(k);
+        if !(1..=self.width).contains(&test) {
+            return None;
         }
+        let record = record_of(self.page, tag)?;
+        Some(code(record, test as usize - 1))
     }
-    None
 }
 
-// The record in use that has this tag.
-pub(crate) fn place_of(page: &[u8], tag: u16) -> Option<usize>
-    requires { InSize page.now }
-    ensures answer { result ≡ place_of page.now tag }
-    ensures inside { IfSome result (λ k. 32 * k + 32 ≤ length page.now) }
-{
-    if tag == FREE {
-        return None;
+impl PageBook<'_> {
+    // Where the lowest record with this tag stands; with tag 0, the lowest free one.
+    pub(crate) fn place(&self, tag: u16) -> Option<usize>
+        ensures first { result ≡ position (has_tag tag) (records_of self.now.page.now) }
+        ensures inside { IfSome result (λ k. 32 * k + 32 ≤ length self.now.page.now) }
+    {
+        records(self.page)
+            .iter()
+            .position(|record| tag_of(record) == tag)
     }
-    record_of(page, tag)
-}
-
-fn capacity_of(book: &PageBook<'_>) -> u32
-    ensures { result ≡ records_in book.now.page.now }
-{
-    (book.page.len() / RECORD) as u32
-}
-
-fn held_of(book: &PageBook<'_>) -> u32
-    ensures { result ≡ length (page_meaning book.now.page.now book.now.width).held }
-{
-    count(book.page)
-}
-
-fn next_of(book: &PageBook<'_>, above: u16) -> Option<u16>
-    ensures { result ≡ next_tag above (page_meaning book.now.page.now book.now.width).held }
-{
-    lowest_above(book.page, above)
 }
 
 // How many records are in use.
-fn count(page: &[u8]) -> u32
-    requires { InSize page.now }
-    ensures { (width : ℕ) → result ≡ occupied (places page.now width) }
+fn count(page: &[u8]) -> usize
+    ensures { result ≡ count_by in_use (records_of page.now) }
 {
-    let mut used = 0;
-    for k in 0..page.len() / RECORD {
-        if tag_at(page, k) != FREE {
-            used += 1;
-        }
-    }
-    used
+    records(page)
+        .iter()
+        .filter(|record| tag_of(record) != FREE)
+        .count()
 }
 
 // The lowest tag above a number.
 fn lowest_above(page: &[u8], above: u16) -> Option<u16>
-    requires { InSize page.now }
-    ensures { (width : ℕ) → result ≡ lowest_above above (places page.now width) }
+    ensures { result ≡ reduce min (filter (nat_lt above) (map (λ r. tag_at r 0) (records_of page.now))) }
 {
-    let mut best = None;
-    for k in 0..page.len() / RECORD {
-        best = lower_of(best, tag_above(page, k, above));
-    }
-    best
-}
-
-// The tag of record `k`, where it is above a number.
-fn tag_above(page: &[u8], k: usize, above: u16) -> Option<u16>
-    requires { 32 * k + 32 ≤ length page.now }
-    ensures { result ≡ when (nat_lt above (tag_at page.now k)) (tag_at page.now k) }
-{
-    let tag = tag_at(page, k);
-    if tag > above { Some(tag) } else { None }
-}
-
-// The lower of two numbers, where there are any.
-fn lower_of(a: Option<u16>, b: Option<u16>) -> Option<u16>
-    ensures { result ≡ lower a b }
-{
-    match (a, b) {
-        (None, _) => b,
-        (Some(x), None) => Some(x),
-        (Some(x), Some(y)) => Some(least(x, y)),
-    }
-}
-
-fn least(x: u16, y: u16) -> u16
-    ensures { result ≡ min x y }
-{
-    if x < y { x } else { y }
-}
-
-fn part_of(book: &PageBook<'_>, tag: u16) -> Option<u8>
-    ensures { result ≡ part_of (page_meaning book.now.page.now book.now.width) tag }
-{
-    match place_of(book.page, tag) {
-        Some(k) => Some(part_at(book.page, k)),
-        None => None,
-    }
-}
-
-fn reading_of(book: &PageBook<'_>, tag: u16, test: u32) -> Option<u8>
-    ensures { result ≡ reading_of (page_meaning book.now.page.now book.now.width) tag test }
-{
-    if test < 1 {
-        return None;
-    }
-    if test > book.width {
-        return None;
-    }
-    match place_of(book.page, tag) {
-        Some(k) => Some(code_at(book.page, k, test as usize - 1)),
-        None => None,
-    }
+    records(page)
+        .iter()
+        .map(tag_of)
+        .filter(|tag| *tag > above)
+        .min()
 }
 
 // The record in use that has this tag.
-pub(crate) fn place_in(book: &PageBook<'_>, tag: u16) -> Option<usize>
-    ensures answer { result ≡ place_of book.now.page.now tag }
-    ensures inside { IfSome result (λ k. 32 * k + 32 ≤ length book.now.page.now) }
+#[tactic(auto, unfolding(crate::specs::Places::record_of))]
+fn record_of(page: &[u8], tag: u16) -> Option<&Record>
+    ensures { option_copied result ≡ record_of page.now tag }
 {
-    place_of(book.page, tag)
+    if tag == FREE {
+        return None;
+    }
+    records(page).iter().find(|record| tag_of(record) == tag)
 }

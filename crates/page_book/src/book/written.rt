@@ -1,55 +1,37 @@
 // The 32 bytes of one record, written.
 
-ghost use Rattle.std.specs.Prelude.{◌≡◌, ℕ, ◌+◌, ◌*◌, ◌<◌, ◌≤◌, length, slice_index_or};
-ghost use Rattle.page_book.specs.Rewrites.{Rewritten, entered_byte};
+ghost use Rattle.std.specs.Prelude.{◌≡◌, ◌+◌, ◌*◌, ◌≤◌, length, true};
+ghost use Rattle.page_book.specs.Places.{are_bytes};
+ghost use Rattle.page_book.specs.Rewrites.{entered_byte, entered_bytes, with_record};
 
-use crate::layout::{BLANK, RECORD};
+use crate::layout::{BLANK, READINGS, RECORD, Record, TAIL};
+use std::array::from_fn;
 
-// Writes a record: tag, part, readings, and blanks up to the last test.
-pub(crate) fn write_record(page: &mut [u8], k: usize, tag: u16, part: u8, readings: &[u8])
+// Writes a record.
+#[tactic(auto, using(crate::proofs::Writing::copied))]
+pub(crate) fn write_record(page: &mut [u8], k: usize, bytes: &Record)
     requires { 32 * k + 32 ≤ length page.old }
-    ensures after { Rewritten page.old page.new k (entered_byte tag part readings.now) }
-    ensures small { (b : ℕ) → b < 32 → entered_byte tag part readings.now b < 256 }
+    ensures { page.new ≡ with_record page.old k bytes.now }
 {
-    for at in 0..RECORD {
-        page[RECORD * k + at] = entered_byte(tag, part, readings, at);
-    }
+    page[RECORD * k..RECORD * k + RECORD].copy_from_slice(bytes);
 }
 
-// Byte `at` of a record.
+// A record in use: tag, part, readings, and blanks up to the last test.
+pub(crate) fn entered(tag: u16, part: u8, readings: &[u8]) -> Record
+    ensures bytes { result ≡ entered_bytes tag part readings.now }
+    ensures small { are_bytes result ≡ true }
+{
+    from_fn(|at| entered_byte(tag, part, readings, at))
+}
+
+// Byte `at` of such a record.
 fn entered_byte(tag: u16, part: u8, readings: &[u8], at: usize) -> u8
     ensures { result ≡ entered_byte tag part readings.now at }
 {
-    if at == 0 {
-        (tag % 256) as u8
-    } else if at == 1 {
-        (tag / 256) as u8
-    } else if at == 2 {
-        part
-    } else if at >= 4 && at < 28 {
-        code_or_blank(readings, at - 4)
-    } else {
-        0
-    }
-}
-
-// The reading at a place, or the blank past the last.
-fn code_or_blank(readings: &[u8], place: usize) -> u8
-    ensures { result ≡ slice_index_or readings.now place 255 }
-{
-    if place < readings.len() {
-        readings[place]
-    } else {
-        BLANK
-    }
-}
-
-// Writes 32 zeros.
-pub(crate) fn clear_record(page: &mut [u8], k: usize)
-    requires { 32 * k + 32 ≤ length page.old }
-    ensures { Rewritten page.old page.new k (λ _. 0) }
-{
-    for at in 0..RECORD {
-        page[RECORD * k + at] = 0;
+    match at {
+        0 | 1 => tag.to_le_bytes()[at],
+        2 => part,
+        READINGS..TAIL => readings.get(at - READINGS).copied().unwrap_or(BLANK),
+        _ => 0,
     }
 }

@@ -42,17 +42,11 @@ impl Reading for Span {
         self.low == 0 && self.high == LAST
     }
 
+    #[tactic(auto, using(crate::specs::SpanLaws::sharing))]
     fn agrees(&self, other: &Span) -> bool
         ensures answer { result ≡ spans.agrees self.now other.now }
-        ensures shares { (result ≡ true) ↔ Shares self.now other.now }
+        ensures shares { (spans.agrees self.now other.now ≡ true) ↔ Shares self.now other.now }
     {
-        overlap(self, other)
+        self.low <= other.high && other.low <= self.high
     }
-}
-
-fn overlap(x: &Span, y: &Span) -> bool
-    ensures answer { result ≡ spans.agrees x.now y.now }
-    ensures shares { (result ≡ true) ↔ Shares x.now y.now }
-{
-    x.low <= y.high && y.low <= x.high
 }

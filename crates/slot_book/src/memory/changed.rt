@@ -1,91 +1,71 @@
 // The changes of a slot book: looked up in the refusal table first, then written in place.
 
 ghost use Rattle.books.specs.Changes.{amend, enter, withdraw};
-ghost use Rattle.books.specs.Promises.{Changed};
-ghost use Rattle.slot_book.specs.Meant.{meant};
-ghost use Rattle.slot_book.specs.Rewritten.{rewritten};
+ghost use Rattle.slot_book.specs.Rewritten.{Made, Passes, rewritten};
 
+use crate::cells::blank_cells;
 use crate::memory::SlotBook;
-use crate::memory::asked::slot_in;
-use crate::memory::written::{clear_cells, fill_cells, set_cell, set_slot};
-use crate::slots::Slot;
+use crate::slots::{NO_SLOT, Slot};
 use books::book::Book;
 use books::faults::BookFault;
-use books::shown::Shown;
-use books::table::{amend_fault, enter_fault, withdraw_fault};
+use books::table::{check_amend, check_enter, check_withdraw};
 use readings::kinds::Reading;
 
 impl<R: Reading> Book for SlotBook<'_, R> {
     ghost rewrites = { rewritten R.Reading.kind };
 
     fn enter(&mut self, tag: u16, part: u8, readings: &[R]) -> Result<(), BookFault> {
-        enter_in(self, tag, part, readings)
+        check_enter(self, tag, part, readings)?;
+        self.put_in(tag, part, readings);
+        Ok(())
     }
 
     fn withdraw(&mut self, tag: u16) -> Result<(), BookFault> {
-        withdraw_in(self, tag)
+        check_withdraw(self, tag)?;
+        self.take_out(tag);
+        Ok(())
     }
 
     fn amend(&mut self, tag: u16, test: u32, reading: R) -> Result<(), BookFault> {
-        amend_in(self, tag, test, reading)
+        check_amend(self, tag, test, reading)?;
+        self.set_reading(tag, test, reading);
+        Ok(())
     }
 }
 
-// Into the first empty slot.
-fn enter_in<R: Reading>(
-    book: &mut SlotBook<'_, R>,
-    tag: u16,
-    part: u8,
-    readings: &[R],
-) -> Result<(), BookFault>
-    ensures { Changed R.Reading.kind meant (rewritten R.Reading.kind) (enter tag part readings.now) book.old book.new result }
-{
-    if let Some(fault) = enter_fault(book, tag, part, readings) {
-        return Err(fault);
+// The changes that the table passes.
+impl<R: Reading> SlotBook<'_, R> {
+    // Into the first empty slot.
+    #[tactic(auto, using(crate::proofs::Asked::book_inside, crate::proofs::Asked::book_small, crate::proofs::Writing::valid_cells))]
+    fn put_in(&mut self, tag: u16, part: u8, readings: &[R])
+        requires { Passes R.Reading.kind self.old (enter tag part readings.now) }
+        ensures { Made R.Reading.kind self.old (enter tag part readings.now) self.new }
+    {
+        let k = self.slot_of(0).unwrap();
+        let at = k * self.width as usize;
+        self.cells[at..at + self.width as usize].copy_from_slice(readings);
+        self.slots[k] = Slot { tag, part };
     }
-    match slot_in(book, 0) {
-        Some(k) => {
-            fill_cells(book, k, readings);
-            set_slot(book, k, Slot { tag, part });
-            Ok(())
-        }
-        None => Err(BookFault::Full),
-    }
-}
 
-fn withdraw_in<R: Reading>(book: &mut SlotBook<'_, R>, tag: u16) -> Result<(), BookFault>
-    ensures { Changed R.Reading.kind meant (rewritten R.Reading.kind) (withdraw tag) book.old book.new result }
-{
-    if let Some(fault) = withdraw_fault(book, tag) {
-        return Err(fault);
+    #[tactic(auto, using(crate::proofs::Asked::book_inside, crate::proofs::Asked::book_small, crate::proofs::Writing::valid_cells))]
+    fn take_out(&mut self, tag: u16)
+        requires { Passes R.Reading.kind self.old (withdraw tag) }
+        ensures { Made R.Reading.kind self.old (withdraw tag) self.new }
+    {
+        let k = self.slot_of(tag).unwrap();
+        let at = k * self.width as usize;
+        blank_cells(&mut self.cells[at..at + self.width as usize]);
+        self.slots[k] = NO_SLOT;
     }
-    match slot_in(book, tag) {
-        Some(k) => {
-            clear_cells(book, k);
-            set_slot(book, k, Slot { tag: 0, part: 0 });
-            Ok(())
-        }
-        None => Err(BookFault::NotHeld(tag)),
-    }
-}
 
-fn amend_in<R: Reading>(
-    book: &mut SlotBook<'_, R>,
-    tag: u16,
-    test: u32,
-    reading: R,
-) -> Result<(), BookFault>
-    ensures { Changed R.Reading.kind meant (rewritten R.Reading.kind) (amend tag test reading) book.old book.new result }
-{
-    if let Some(fault) = amend_fault(book, tag, test, reading) {
-        return Err(fault);
-    }
-    match slot_in(book, tag) {
-        Some(k) => {
-            set_cell(book, k, test - 1, reading);
-            Ok(())
-        }
-        None => Err(BookFault::NotHeld(tag)),
+    #[tactic(auto, using(crate::proofs::Asked::book_inside, crate::proofs::Asked::book_small, crate::proofs::Writing::valid_set))]
+    fn set_reading(&mut self, tag: u16, test: u32, reading: R)
+        requires { Passes R.Reading.kind self.old (amend tag test reading) }
+        ensures { Made R.Reading.kind self.old (amend tag test reading) self.new }
+    {
+        let k = self.slot_of(tag).unwrap();
+        let at = k * self.width as usize + (test - 1) as usize;
+        self.cells[at] = reading;
     }
 }
 

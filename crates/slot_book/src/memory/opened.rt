@@ -6,7 +6,7 @@ ghost use Rattle.slot_book.specs.Opened.{Opened, refused_slots};
 
 use crate::cells::blank_cells;
 use crate::memory::SlotBook;
-use crate::slots::{Slot, empty_slots};
+use crate::slots::{NO_SLOT, Slot};
 use books::faults::BookFault;
 use readings::kinds::Reading;
 
@@ -21,13 +21,7 @@ const MOST: usize = 64;
 pub fn check<R: Reading>(slots: &[Slot], cells: &[R], width: u32) -> Result<(), BookFault>
     ensures { result ≡ passed (refused_slots slots.now cells.now width) }
 {
-    check_fit(slots, cells, width)
-}
-
-fn check_fit<R: Reading>(slots: &[Slot], cells: &[R], width: u32) -> Result<(), BookFault>
-    ensures { result ≡ passed (refused_slots slots.now cells.now width) }
-{
-    if width < NARROWEST || width > WIDEST {
+    if !(NARROWEST..=WIDEST).contains(&width) {
         return Err(BookFault::Width);
     }
     if slots.len() > MOST || cells.len() != slots.len() * width as usize {
@@ -38,29 +32,23 @@ fn check_fit<R: Reading>(slots: &[Slot], cells: &[R], width: u32) -> Result<(), 
 
 impl<'a, R: Reading> SlotBook<'a, R> {
     // Opens an empty book: the memory is emptied. Where the check refuses, the book has no slots.
+    #[tactic(auto, using(crate::proofs::Opening::none_valid, crate::proofs::Opening::emptied_valid, crate::proofs::Opening::none_gathered))]
     pub fn new(slots: &'a mut [Slot], cells: &'a mut [R], width: u32) -> SlotBook<'a, R>
         ensures { Opened R.Reading.kind slots.entry cells.entry width result }
     {
-        open(slots, cells, width)
-    }
-}
-
-fn open<'a, R: Reading>(slots: &'a mut [Slot], cells: &'a mut [R], width: u32) -> SlotBook<'a, R>
-    ensures { Opened R.Reading.kind slots.entry cells.entry width result }
-{
-    if check(slots, cells, width).is_err() {
-        return SlotBook {
-            slots: &mut slots[0..0],
-            cells: &mut cells[0..0],
-            width: NARROWEST,
-        };
-    }
-    let count = cells.len();
-    empty_slots(slots);
-    blank_cells(cells, 0, count);
-    SlotBook {
-        slots,
-        cells,
-        width,
+        if check(slots, cells, width).is_err() {
+            return SlotBook {
+                slots: &mut slots[..0],
+                cells: &mut cells[..0],
+                width: NARROWEST,
+            };
+        }
+        slots.fill(NO_SLOT);
+        blank_cells(cells);
+        SlotBook {
+            slots,
+            cells,
+            width,
+        }
     }
 }

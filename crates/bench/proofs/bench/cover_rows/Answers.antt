@@ -1,5 +1,15 @@
 use Rattle.bench.proofs.bench.cover_rows.Goals as goal
 use Rattle.covers.proofs.Calls.{not_refused}
+use Rattle.covers.specs.Theorems.{Fair, Opened, RefusedWith}
+use Rattle.covers.specs.declared.faults.CoverFault.{CoverFault}
+use Rattle.std.proofs.Common.{ℕ, ◌^◌, ◌<◌, List, Ok, Err, MatchResult, Result, refl}
+use Rattle.std.specs.List.{AllByRecursion as Every}
+use Rattle.std.specs.Result.{IsOk}
 
-pub unreachable-requires : goal.unreachable-requires
-unreachable-requires c = not_refused c.args.width c.args.rows.now c.in-Err.field-0 c.requires.0 c.requires.1 c.in-Err.ensures.plans
+is_listed : (width : ℕ) (rows : List ℕ) (r : Result (ℕ × ℕ) CoverFault) → Fair width → Every (λ row. row < 2 ^ width) rows
+    → MatchResult r (λ answer. Opened width rows) (RefusedWith width rows) → IsOk r
+is_listed width rows (Ok answer) fair narrow h = refl
+is_listed width rows (Err fault) fair narrow h = absurd (not_refused width rows fault fair narrow h)
+
+pub unwrap-requires : goal.unwrap-requires
+unwrap-requires c = is_listed c.args.width c.args.rows.now c.cover.result c.requires.0 c.requires.1 c.cover.ensures.plans

@@ -1,4 +1,4 @@
-use Rattle.std.proofs.Common.{ℕ, length, replicate, ap, ◌∙◌, arith}
+use Rattle.std.proofs.Common.{◌≡◌, ℕ, ◌≤◌, Some, sym, length, replicate, ap, ◌∙◌, arith}
 use Rattle.bench.proofs.Singles.{single_count}
 use Rattle.bench.proofs.Written.{narrow_written, plans_written}
 use Rattle.bench.proofs.single.list_single.Goals as goal
@@ -8,26 +8,34 @@ use Rattle.matrix.specs.Rows.{rows_of}
 
 pub cover_written-requires : goal.cover_written-requires
 cover_written-requires g c =
-    let m = c.in-Some.ensures in
+    let m = c.rows_of.ensures in
+    let n = c.unwrap-count.result in
+    let is : c.rows_of.result ≡ Some n = c.unwrap-count.ensures in
+    let few : n ≤ 64 = rw is at m.few in
+    let counted = sym is ∙ m.answer in
     let book = g.B.Shown.means c.args.book.now in
     let one = find c.args.tag book.held in
     let wide = (g.met.B.Shown.sound c.args.book.now).wide in (
       (omega (arith, wide, c.width.ensures), omega (arith, wide, c.width.ensures)),
       (
-        omega (arith, m.few, c.requires.0, c.rows_of.auto.rows),
-        narrow_written c.args.work.now (rows_of g.B.Reading.Reading.kind book.held one) c.rows_of.new.rows c.in-Some.count
-            m.after (single_count g.B.Reading.Reading.kind book one c.in-Some.count m.answer) (omega (arith, m.few)) c.requires.0
+        omega (arith, c.requires.0, c.rows_of.auto.rows),
+        narrow_written c.args.work.now (rows_of g.B.Reading.Reading.kind book.held one) c.rows_of.new.rows n
+            m.after (single_count g.B.Reading.Reading.kind book one n counted) (omega arith) c.requires.0
             c.width.result book.width c.width.ensures m.narrow,
       ),
     )
 
 pub returns : goal.returns
 returns g c =
-    let m = c.in-Some.ensures in
+    let m = c.rows_of.ensures in
+    let n = c.unwrap-count.result in
+    let is : c.rows_of.result ≡ Some n = c.unwrap-count.ensures in
+    let few : n ≤ 64 = rw is at m.few in
+    let counted = sym is ∙ m.answer in
     let book = g.B.Shown.means c.args.book.now in
     let one = find c.args.tag book.held in
-    let same = plans_written c.args.work.now (rows_of g.B.Reading.Reading.kind book.held one) c.rows_of.new.rows c.in-Some.count
-    m.after (single_count g.B.Reading.Reading.kind book one c.in-Some.count m.answer) (omega (arith, m.few)) c.requires.0
+    let same = plans_written c.args.work.now (rows_of g.B.Reading.Reading.kind book.held one) c.rows_of.new.rows n
+    m.after (single_count g.B.Reading.Reading.kind book one n counted) (omega arith) c.requires.0
     c.width.result book.width c.width.ensures in
     record {
       answer = c.cover_written.ensures.answer ∙ ap (told (length c.args.list.now)) same;

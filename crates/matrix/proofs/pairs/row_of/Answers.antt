@@ -3,7 +3,8 @@ use Rattle.books.specs.Questions.{find, reading_of}
 use Rattle.matrix.proofs.Digits.{apart_down, apart_end, clashing_le, found_full, row_room}
 use Rattle.matrix.proofs.pairs.row_of.Goals as goal
 use Rattle.matrix.specs.Walks.{readings_in}
-use Rattle.std.proofs.Common.{drop, sym, arith}
+use Rattle.std.proofs.Common.{◌≡◌, ℕ, Bool, true, false, cond, drop, sym, ◌∙◌, arith}
+use mir.Val.{bool_byte}
 
 pub loop-test-init : goal.loop-test-init
 loop-test-init g c =
@@ -21,16 +22,22 @@ overflow_mul-row g c =
           c.args.a c.args.b c.loop-test.test c.loop-test.row c.loop-test-test.true c.loop-test.invariant,
     )
 
+-- the digit that a test adds
+digit : (b : Bool) (n d : ℕ) → n ≡ bool_byte b → cond b 1 0 ≡ d → n ≡ d
+digit true n d e f = e ∙ f
+digit false n d e f = e ∙ f
+
 pub overflow_add-row : goal.overflow_add-row
 overflow_add-row g c =
     let m = g.B.Shown.means c.args.book.now in
     let room = row_room g.B.Reading.Reading.kind m (g.met.B.Shown.sound c.args.book.now)
     c.args.a c.args.b c.loop-test.test c.loop-test.row c.loop-test-test.true c.loop-test.invariant in
-    let digit = clashing_le g.B.Reading.Reading.kind (reading_of m c.args.a c.loop-test.test) (reading_of m c.args.b c.loop-test.test) in
-    omega (arith, c.tells.ensures)
+    let small = clashing_le g.B.Reading.Reading.kind (reading_of m c.args.a c.loop-test.test) (reading_of m c.args.b c.loop-test.test) in
+    let e = digit c.tells.result c.from.result _ c.from.ensures c.tells.ensures in
+    omega (arith, e)
 
 pub loop-test-preserved : goal.loop-test-preserved
 loop-test-preserved g c =
     let m = g.B.Shown.means c.args.book.now in
-    apart_down g.B.Reading.Reading.kind (find c.args.a m.held) (find c.args.b m.held) c.loop-test.test c.loop-test.row c.tells.result
-    c.loop-test-test.true c.loop-test.invariant c.tells.ensures
+    apart_down g.B.Reading.Reading.kind (find c.args.a m.held) (find c.args.b m.held) c.loop-test.test c.loop-test.row c.from.result
+    c.loop-test-test.true c.loop-test.invariant (digit c.tells.result c.from.result _ c.from.ensures c.tells.ensures)

@@ -3,7 +3,7 @@ use Rattle.books.specs.Questions.{find}
 use Rattle.matrix.proofs.Walks.{next_held}
 use Rattle.matrix.proofs.Writes.{rows_done, rows_of_few, rows_pass, rows_put}
 use Rattle.matrix.proofs.rows.rows_above.Goals as goal
-use Rattle.std.proofs.Common.{arith}
+use Rattle.std.proofs.Common.{arith, refl}
 
 pub overflow_add-count : goal.overflow_add-count
 overflow_add-count g c =
@@ -20,8 +20,8 @@ loop-other-smaller-then-differ g c =
 pub loop-other-preserved-then-differ : goal.loop-other-preserved-then-differ
 loop-other-preserved-then-differ g c =
     rows_put g.B.Reading.Reading.kind (g.B.Shown.means c.args.book.now) (g.met.B.Shown.sound c.args.book.now)
-    c.loop-other.last c.loop-other.count c.loop-other.rows _ _ _ c.in-Some.other c.row_of.result c.put.new.rows
-    c.loop-other.invariant c.in-Some.ensures c.if-differ.ensures c.row_of.ensures c.put.ensures
+    c.loop-other.last c.loop-other.count c.loop-other.rows _ _ _ c.in-Some.other _ c.put_row.new.rows
+    c.loop-other.invariant c.in-Some.ensures c.if-differ.ensures refl c.put_row.ensures
 
 pub loop-other-smaller : goal.loop-other-smaller
 loop-other-smaller g c =

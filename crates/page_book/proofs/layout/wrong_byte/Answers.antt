@@ -1,27 +1,14 @@
--- The loop looks for the lowest wrong byte.
-use Rattle.page_book.specs.Bytes.{found_right, found_wrong}
-use Rattle.page_book.specs.LowestFacts.{lowest_found, lowest_more, lowest_none, named}
+use Rattle.page_book.proofs.Records.{wrong_place}
 use Rattle.page_book.proofs.layout.wrong_byte.Goals as goal
-use Rattle.page_book.specs.Refused.{wrong_at, wrong_byte}
-use Rattle.std.proofs.Common.{◌≡◌, Some, sym, arith}
+use Rattle.page_book.specs.Refused.{right_byte}
+use Rattle.std.proofs.Common.{ℕ, Bool, not, tests, rules}
+use Rattle.std.proofs.lemmas.Iterator.{YieldsList-from_slice}
+use Rattle.std.proofs.lemmas.Iterator.Consumers.{YieldsList-from_enumerate}
+use Rattle.std.proofs.lemmas.Iterator.Search.{position_from_yields_List}
 
-pub loop-at-init : goal.loop-at-init
-loop-at-init c = lowest_none (wrong_at c.args.page.now c.args.width c.args.k)
-
-pub returns-then-not-right_byte : goal.returns-then-not-right_byte
-unfolding wrong_byte
-returns-then-not-right_byte c =
-    named Some (λ o. o) _ c.loop-at.at _ (omega arith)
-    (lowest_found _ c.loop-at.at 32 _ c.loop-at.invariant
-    (found_wrong c.args.page.now c.args.width c.args.k c.loop-at.at _ _ c.tag_at-tag.ensures
-    c.byte_at.ensures c.if-not-right_byte.ensures)
-    (omega arith))
-
-pub loop-at-preserved : goal.loop-at-preserved
-loop-at-preserved c =
-    lowest_more _ c.loop-at.at c.loop-at.invariant
-    (found_right c.args.page.now c.args.width c.args.k c.loop-at.at _ _ c.tag_at-tag.ensures c.byte_at.ensures c.if-not-right_byte.ensures)
-
-pub returns : goal.returns
-unfolding wrong_byte
-returns c = let e : c.loop-at.at ≡ 32 = omega arith in sym (rw e at c.loop-at.invariant)
+pub returns-clause-first : goal.returns-clause-first
+returns-clause-first c =
+    let test : ℕ × ℕ → Bool = λ p. not (right_byte c.tag-tag.result c.args.width p.0 p.1) in
+    wrong_place c.args.bytes.now c.args.width c.tag-tag.result c.position.result (search rules) c.tag-tag.ensures
+    (position_from_yields_List test _ _ c.position.result c.position.ensures.ran
+    (YieldsList-from_enumerate (YieldsList-from_slice c.args.bytes.now (search rules)) c.enumerate.ensures.count) (λ x b q k. search (rules, tests)))

@@ -1,17 +1,6 @@
-use Rattle.books.specs.Changes.{amend}
-use Rattle.layers.specs.Down.{changed_up}
-use Rattle.layers.proofs.Handed.{assembly_after, assembly_over}
+use Rattle.layers.proofs.Handed.{assembly_handed}
 use Rattle.layers.proofs.assembly.AssemblyBook.amend.Goals as goal
-use Rattle.layers.specs.Assemblies.{assembly_means}
-use Rattle.std.proofs.Common.{sym, refl, ap, ◌∙◌}
+use Rattle.std.proofs.Common.{refl}
 
 pub returns : goal.returns
-returns g c =
-    let kind = g.B.Reading.Reading.kind in
-    let table = c.args.self.now.table in
-    let m = g.B.Shown.means c.args.self.now.below in
-    let change = amend c.args.tag c.args.test c.args.reading in
-    let none = sym c.in_default.ensures in
-    changed_up kind g.B.Shown.means g.B.Book.rewrites _ _ change c.args.self.now.below c.amend.new.self
-    _ _ c.amend.result (assembly_over kind table m) none c.amend.ensures
-    (λ e. ap (assembly_means table) e ∙ assembly_after kind table m change none) (λ w. (w, refl))
+returns g c = assembly_handed _ _ _ _ _ _ _ refl c.in_ok-check_amend.ensures c.amend.ensures

@@ -1,6 +1,0 @@
-use Rattle.layers.proofs.assembly.AssemblyShown.held.Goals as goal
-use lib.ListN.{length-map}
-use Rattle.std.proofs.Common.{sym, ◌∙◌}
-
-pub returns : goal.returns
-returns g c = c.held.ensures ∙ sym (length-map _ _)
