@@ -22,13 +22,13 @@ use Rattle.std.proofs.lemmas.Option.{get_or_from_slice_get, slice_get_cases}
 use Rattle.std.specs.List.{find as seek, position_or_len, reduce}
 use Rattle.std.specs.Option.{option_map}
 
-reading_within : (xs : List ℕ) (j : ℕ) → j < length xs → reading_at (suc j) xs ≡ Some (get_or xs j 0)
+pub reading_within : (xs : List ℕ) (j : ℕ) → j < length xs → reading_at (suc j) xs ≡ Some (get_or xs j 0)
 unfolding reading_at
 reading_within [] j l = absurd (omega arith)
 reading_within (x ∷ xs) zero l = refl
 reading_within (x ∷ xs) (suc j) l = reading_within xs j (omega arith)
 
-reading_past : (xs : List ℕ) (j : ℕ) → length xs ≤ j → reading_at (suc j) xs ≡ None
+pub reading_past : (xs : List ℕ) (j : ℕ) → length xs ≤ j → reading_at (suc j) xs ≡ None
 unfolding reading_at
 reading_past [] j l = refl
 reading_past (x ∷ xs) zero l = absurd (omega arith)

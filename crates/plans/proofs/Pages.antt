@@ -15,6 +15,7 @@ use Rattle.books.specs.Meanings.{Rec, Sound}
 use Rattle.books.specs.Questions.{reading_at}
 use Rattle.matrix.specs.Apart.{Clash, Different, TellsAt}
 use Rattle.matrix.specs.Theorems.{IsMatrix, IsRow}
+use Rattle.page_book.proofs.Asked.{reading_past, reading_within}
 use Rattle.page_book.specs.Layout.{WellFormed, code_at, part_at, records_in, tag_at}
 use Rattle.page_book.specs.Paged.{code_is, length_codes, length_places, page_sound, place_is, place_some, place_used}
 use Rattle.page_book.specs.Places.{codes_at, page_meaning, places, record_at, valid}
@@ -22,7 +23,7 @@ use Rattle.plans.specs.Rows.{Compatible, Differ, IsMatrix as IsMatrixOf, OfTwo, 
 use Rattle.readings.specs.Codes.{codes}
 use Rattle.sets.proofs.Members.{all_in, in_all}
 use Rattle.sets.specs.Lists.{Among}
-use Rattle.std.proofs.Common.{◌≡◌, ℕ, zero, suc, ◌+◌, ◌^◌, ◌<◌, ◌≤◌, Bool, true, false, cond, ltb, ◌≢◌, ◌⊎◌, List, [], ◌∷◌, length, get_or, Some, None, Option, Fits, w8, rules, sym, refl, ap, ◌∙◌, subst, inl, inr, pow_mono, arith}
+use Rattle.std.proofs.Common.{◌≡◌, ℕ, zero, suc, ◌+◌, ◌^◌, ◌<◌, ◌≤◌, Bool, true, false, cond, ltb, ◌≢◌, ◌⊎◌, List, [], ◌∷◌, length, get_or, Some, None, Option, Fits, w8, rules, sym, ap, ◌∙◌, subst, inl, inr, pow_mono, arith}
 use Rattle.std.proofs.lemmas.Bool.{both_ways, cases_Bool, cases_lt, cases_order}
 use Rattle.std.proofs.lemmas.Bool.Decides.{nat_tests}
 use Rattle.std.proofs.ByRecursion.{All-weaker}
@@ -90,18 +91,6 @@ turned : (a b : ℕ) → Compatible a b → Compatible b a
 turned a b (inl e) = inl (sym e)
 turned a b (inr (inl e)) = inr (inr e)
 turned a b (inr (inr e)) = inr (inl e)
-
-reading_within : (xs : List ℕ) (j : ℕ) → j < length xs → reading_at (suc j) xs ≡ Some (get_or xs j 0)
-unfolding reading_at
-reading_within [] j l = absurd (omega arith)
-reading_within (x ∷ xs) zero l = refl
-reading_within (x ∷ xs) (suc j) l = reading_within xs j (omega arith)
-
-reading_past : (xs : List ℕ) (j : ℕ) → length xs ≤ j → reading_at (suc j) xs ≡ None
-unfolding reading_at
-reading_past [] j l = refl
-reading_past (x ∷ xs) zero l = absurd (omega arith)
-reading_past (x ∷ xs) (suc j) l = reading_past xs j (omega arith)
 
 module _ (page : List ℕ) (width : ℕ) (formed : WellFormed page width) where
   reading_is : (k p : ℕ) → p < width → reading_at (suc p) (codes_at page width k) ≡ Some (code_at page k p)
