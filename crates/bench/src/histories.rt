@@ -97,7 +97,6 @@ fn step_lent<B: Book>(
     number_of(step(bench, call, list, &mut work[..lent]))
 }
 
-// What a call is told stands at its own index: what is written through `iter_mut` is not known to a proof after the loop.
 // Runs the calls one after another on a new bench of this book, as many as there are places for their numbers; answers the bench.
 pub fn replay<B: Book>(
     book: B,
@@ -123,14 +122,15 @@ fn replay_on<B: Book>(
 {
     let mut bench = Bench::new(book);
     let count = calls.len().min(told.len());
+    // by an index: what is written through `iter_mut` under a `zip` is not known to a proof after the loop
     for (i, call) in calls[..count].iter().enumerate() {
         told[i] = step_lent(&mut bench, call, list, work);
     }
     bench
 }
 
-// Ten parameters, five for each: all that is lent is the caller's own, and in a struct would be known after the call by ghost names alone.
-// Runs two lists of calls on new benches of two books with one kind of reading; answers both benches.
+// Runs two lists of calls on new benches of two books with one kind of reading; answers both benches. Ten parameters, five
+// for each: all that is lent is the caller's own, and in a struct would be known after the call by ghost names alone.
 pub fn replay_two<B: Book, C: Book<Reading = B::Reading>>(
     book: B,
     calls: &[Call<'_, B::Reading>],

@@ -1,5 +1,4 @@
-// The core of a book: the tests that alone tell some two held records of different parts apart, found by walking held tags by the
-// Option of the next tag, a rule of the project.
+// The core of a book: the tests that alone tell some two held records of different parts apart, found by walking held tags.
 
 ghost use Rattle.std.specs.Prelude.{◌≡◌, ℕ, ◌↔◌};
 ghost use Rattle.books.specs.Questions.{find};
@@ -33,6 +32,7 @@ fn alone_in<B: Shown>(book: &B) -> u32
 {
     let mut alone = EMPTY;
     let mut last = 0;
+    // by the Option of the next tag: a rule of the project
     while let Some(tag) = book.next_tag(last) {
         alone |= alone_above(book, tag);
         last = tag;
@@ -46,6 +46,7 @@ fn alone_above<B: Shown>(book: &B, tag: u16) -> u32
 {
     let mut alone = EMPTY;
     let mut last = tag;
+    // by the Option of the next tag: a rule of the project
     while let Some(other) = book.next_tag(last) {
         if differ(book, tag, other) {
             alone |= single(row_of(book, tag, other));

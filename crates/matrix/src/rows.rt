@@ -1,4 +1,4 @@
-// The matrix of a book, over any book and kind, by walking held tags: by the Option of the next tag, a rule of the project.
+// The matrix of a book, over any book and kind, by walking held tags.
 
 ghost use Rattle.std.specs.Prelude.{◌≡◌, ◌+◌, ◌^◌, ◌<◌, ◌≤◌, length, IfSome, slice_set};
 ghost use Rattle.books.specs.Questions.{find};
@@ -37,6 +37,7 @@ fn write_matrix<B: Shown>(book: &B, rows: &mut [u32]) -> usize
 {
     let mut count = 0;
     let mut last = 0;
+    // by the Option of the next tag: a rule of the project
     while let Some(tag) = book.next_tag(last) {
         count = rows_above(book, tag, tag, rows, count);
         last = tag;
@@ -77,6 +78,7 @@ fn rows_above<B: Shown>(book: &B, tag: u16, above: u16, rows: &mut [u32], from: 
 {
     let mut count = from;
     let mut last = above;
+    // by the Option of the next tag: a rule of the project
     while let Some(other) = book.next_tag(last) {
         if differ(book, tag, other) {
             put_row(book, tag, other, rows, count);

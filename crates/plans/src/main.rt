@@ -35,7 +35,7 @@ fn main(rt: HostRuntime) -> io::Result<()> {
     out.flush()
 }
 
-// The head line, and a line for each plan unless it is over.
+// The head line, and a line for each plan unless it is over. The list is the caller's memory, and the count, which is printed too, tells its plans.
 fn print_plans<W: Write>(out: &mut W, list: &[u32], count: u32, over: bool) -> io::Result<()> {
     let mut line = [0u8; ROOM];
     let written = head_line(&mut line, count, over);
@@ -66,7 +66,7 @@ fn print_refusal<W: Write>(out: &mut W, fault: BookFault) -> io::Result<()> {
     print_line(out, &line, written)
 }
 
-// The first bytes of the buffer, as many as were written.
+// The first bytes of the buffer, as many as were written: the buffer is the caller's, and a call that writes a line answers its length.
 fn print_line<W: Write>(
     out: &mut W,
     line: &[u8],

@@ -7,7 +7,7 @@ ghost use Rattle.page_book.specs.Rewrites.{entered_byte, entered_bytes, with_rec
 use crate::layout::{BLANK, READINGS, RECORD, Record, TAIL};
 use std::array::from_fn;
 
-// Writes a record.
+// Writes a record. Page and place, and no part of the page lent for it: what the whole page then is, is what its callers tell.
 #[tactic(auto, using(crate::proofs::Writing::copied))]
 pub(crate) fn write_record(page: &mut [u8], k: usize, bytes: &Record)
     requires { 32 * k + 32 ≤ length page.old }
