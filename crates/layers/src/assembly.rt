@@ -39,7 +39,7 @@ pub fn check(table: &[u8; 250]) -> Result<(), AssemblyFault>
     }
 }
 
-// The place of the first wrong entry, from 0. On its own, since a chain is proved without a proof file only as a function's whole body.
+// The place of the first wrong entry, from 0. On its own, since this chain closes without a proof file only as a function's whole body.
 fn wrong_place(table: &[u8; 250]) -> Option<usize>
     ensures place { result ≡ wrong_place table.now }
     ensures within { IfSome result (λ place. place < 250) }

@@ -1,4 +1,4 @@
-// Cells written one after another.
+// Cells made blank.
 
 ghost use Rattle.std.specs.Prelude.{◌≡◌, length, replicate};
 

@@ -5,7 +5,7 @@
 // a slot, and what is found among slots
 pub mod slots;
 
-// cells written one after another
+// cells made blank
 mod cells;
 
 // the book: slots, cells and what always holds of them

@@ -1,4 +1,4 @@
-// A bar's check and its tests, on small examples.
+// The lowest test outside a width, as a bar's check asks for it, and a bar's tests, on small examples.
 
 use crate::bar::bars;
 use crate::faults::BarFault;
