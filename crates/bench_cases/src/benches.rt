@@ -4,6 +4,7 @@ use bench::bench::Bench;
 use bench::faults::BenchFault;
 use bench::histories::{Call, replay, replay_two};
 use bench::single::plans_for;
+use bench::whole::plans_of;
 use books::book::Book;
 use books::faults::BookFault;
 use books::shown::Shown;
@@ -74,6 +75,26 @@ fn a_list_that_is_too_short_is_zeros(rt: HostRuntime) {
     let mut slots = [EMPTY; 5];
     let mut cells = [0u8; 25];
     is_over(&rt, SlotBook::new(&mut slots, &mut cells, 5));
+}
+
+fn lists_without_a_bench<B: Book<Reading = u8> + Drop>(rt: &impl Abort, mut book: B) {
+    enter_four(rt, &mut book);
+    let mut list = [9u32; 6];
+    let mut work = DIRTY;
+    assert_eq!(rt;
+        plans_of(&book, &mut list, &mut work[0..2015]),
+        Err(BenchFault::Work)
+    );
+    assert_eq!(rt; list, [9, 9, 9, 9, 9, 9]);
+    assert_eq!(rt; plans_of(&book, &mut list, &mut work), Ok((4, 0)));
+    assert_eq!(rt; list, [5, 6, 10, 25, 0, 0]);
+    assert!(rt; work == [0u32; 2016]);
+}
+
+#[test]
+fn a_book_is_listed_without_a_bench(rt: HostRuntime) {
+    let mut page = [0u8; 160];
+    lists_without_a_bench(&rt, PageBook::new(&mut page, 5));
 }
 
 fn lists_under_a_bar<B: Book<Reading = u8> + Drop>(rt: &impl Abort, mut book: B) {

@@ -1,5 +1,9 @@
+pub mod Digits
+pub mod Matrix
+pub mod Words
 pub mod Asked
 pub mod Records
+pub mod Pairs
 pub mod Rewriting
 pub mod Amending
 pub mod Allowed

@@ -1,5 +1,5 @@
 -- A page record by record: each record's bytes are those of the page, and what is found among the records is found on the page.
-use Rattle.std.proofs.Common.{◌≡◌, ℕ, zero, suc, ◌+◌, ◌*◌, ◌<◌, ◌≤◌, Bool, true, false, not, ◌||◌, eqb, ltb, ◌≢◌, List, [], ◌∷◌, length, get_or, take, drop, is_some, Some, None, Option, sym, refl, ap, ◌∙◌, inl, inr, zero-add, arith}
+use Rattle.std.proofs.Common.{◌≡◌, ℕ, zero, suc, ◌+◌, ◌*◌, ◌<◌, ◌≤◌, Bool, true, false, not, ◌||◌, eqb, ltb, ◌≢◌, List, [], ◌∷◌, length, get_or, take, drop, is_some, Some, None, Option, sym, refl, ap, ◌∙◌, inl, inr, zero-add, arith, length-drop}
 use Rattle.books.specs.declared.faults.PageFault.TheVariants.{Twice}
 use Rattle.page_book.specs.Layout.{byte_at, code_at, has_tag, part_at, records_in, records_of, tag_at}
 use Rattle.page_book.specs.Lowest.{lowest}
@@ -8,7 +8,7 @@ use Rattle.page_book.specs.Refused.{right_byte, same_tag, twice, twice_at, wrong
 use Rattle.page_book.specs.Twice.{twice_free, twice_in_use}
 use Rattle.refusals.specs.Faults.{or_else, when}
 use Rattle.std.proofs.lemmas.Bool.{cases_lt, cond-false, cond-true, le-ltb, lt-ltb, not-true}
-use Rattle.std.proofs.lemmas.List.{drop-drop, get_or-drop, get_or-take}
+use Rattle.std.proofs.lemmas.List.{drop-drop, get_or-drop, get_or-take, length-take-le}
 use Rattle.std.proofs.Math.Seq.{take-suc}
 use Rattle.std.proofs.lemmas.List.FromFn.{get_or-enumerate_from, length-enumerate_from}
 use Rattle.std.proofs.lemmas.List.Folds.{list_any-append}
@@ -40,6 +40,11 @@ module _ (page : List ℕ) where
         ∙ ap (λ i. get_or (take 32 (drop (32 * k) page)) i 0) (zero-add b)
         ∙ get_or-take 32 (drop (32 * k) page) b 0 m
         ∙ get_or-drop (32 * k) page b 0
+
+    pub length_record : length (get_or (records_of page) k d) ≡ 32
+    length_record =
+        let n = length-drop (32 * k) page in
+        ap length (chunk_is (records_in page) k page d l) ∙ length-take-le 32 (drop (32 * k) page) (omega arith)
 
     pub tag_is : tag_at (get_or (records_of page) k d) 0 ≡ tag_at page k
     tag_is = let a = byte_is 0 (omega arith) in let b = byte_is 1 (omega arith) in omega arith

@@ -2,6 +2,8 @@ pub mod Layout
 pub mod Lowest
 pub mod Refused
 pub mod Told
+pub mod Rows
+pub mod Earlier
 pub mod Places
 pub mod Rewrites
 pub mod Kept

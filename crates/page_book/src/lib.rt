@@ -10,6 +10,8 @@ pub use layout::LARGEST;
 mod tags;
 // whether bytes are a page of a width
 pub mod checks;
+// the matrix of a page: a row for each two records of different parts
+pub mod rows;
 // a page that is a book
 pub mod book;
 // one change in a page that the caller holds

@@ -1,7 +1,8 @@
 -- The matrix of the book that a page is, told in the bytes of the page.
 use Rattle.bench.proofs.Known.{all_plans}
 use Rattle.bench.specs.Promise.{plans_by}
-use Rattle.covers.specs.Theorems.{Lists}
+use Rattle.covers.specs.Plans.{Covers, Plan}
+use Rattle.covers.specs.Theorems.{Fair, Lists}
 use Rattle.matrix.proofs.Matrices.{matrix_is}
 use Rattle.matrix.proofs.Sizes.{matrix_narrow}
 use Rattle.matrix.specs.Rows.{matrix_of}
@@ -19,10 +20,13 @@ use Rattle.page_book.proofs.Asked.{reading_past, reading_within}
 use Rattle.page_book.specs.Layout.{WellFormed, code_at, part_at, records_in, tag_at}
 use Rattle.page_book.specs.Paged.{code_is, length_codes, length_places, page_sound, place_is, place_some, place_used}
 use Rattle.page_book.specs.Places.{codes_at, page_meaning, places, record_at, valid}
-use Rattle.plans.specs.Rows.{Compatible, Differ, IsMatrix as IsMatrixOf, OfTwo, TellApart}
+use Rattle.page_book.specs.Rows.{Compatible, Differ, IsMatrix as IsMatrixOf, OfTwo, TellApart}
 use Rattle.readings.specs.Codes.{codes}
-use Rattle.sets.proofs.Members.{all_in, in_all}
+use Rattle.sets.proofs.Bits.{within_same}
+use Rattle.sets.proofs.Members.{all_in, in_all, rising_same}
+use Rattle.sets.proofs.Places.{below_place}
 use Rattle.sets.specs.Lists.{Among}
+use Rattle.sets.specs.Sets.{Shares, Within}
 use Rattle.std.proofs.Common.{◌≡◌, ℕ, zero, suc, ◌+◌, ◌^◌, ◌<◌, ◌≤◌, Bool, true, false, cond, ltb, ◌≢◌, ◌⊎◌, List, [], ◌∷◌, length, get_or, Some, None, Option, Fits, w8, rules, sym, ap, ◌∙◌, subst, inl, inr, pow_mono, arith}
 use Rattle.std.proofs.lemmas.Bool.{both_ways, cases_Bool, cases_lt, cases_order}
 use Rattle.std.proofs.lemmas.Bool.Decides.{nat_tests}
@@ -215,3 +219,70 @@ module _ (page : List ℕ) (width : ℕ) (accepted : refused_page page width ≡
 
   pub page_plans : Lists (matrix_of codes (page_meaning page width).held) (plans_by codes (page_meaning page width))
   page_plans = all_plans codes (page_meaning page width) sound
+
+-- ---- two matrices of one page have the same plans
+
+among : (xs : List ℕ) (x : ℕ) → ContainsAt xs x → Among xs x
+among [] x (i, l, e) = absurd (omega arith)
+among (y ∷ ys) x (zero, l, e) = inl (e 0)
+among (y ∷ ys) x (suc i, l, e) = inr (among ys x (i, omega (arith, l), e))
+
+module _ (page : List ℕ) where
+  -- what tells the same two records apart is one set
+  apart_within : (i k s t : ℕ) → TellApart page i k s → TellApart page i k t → Within s t
+  apart_within i k s t (small, a) (small', b) j h = let l = below_place s j 24 small h in (b j l).1 ((a j l).0 h)
+
+  apart_same : (i k s t : ℕ) → TellApart page i k s → TellApart page i k t → s ≡ t
+  apart_same i k s t a b = within_same s t (apart_within i k s t a b) (apart_within i k t s b a)
+
+  row_other : (rows rows' : List ℕ) → IsMatrixOf page rows → IsMatrixOf page rows' → (s : ℕ) → Among rows s → Among rows' s
+  row_other rows rows' is is' s i =
+      let p = all_in (OfTwo page (records_in page)) rows s is.0 i in
+      let r = is'.1 p.0 p.1 p.2 p.3 p.4 in
+      subst (Among rows') (apart_same p.0 p.1 r.0 s r.2 p.5) (among rows' r.0 r.1)
+
+module _ (rows rows' : List ℕ) (f : (s : ℕ) → Among rows' s → Among rows s) where
+  covers_other : (s : ℕ) → Covers rows s → Covers rows' s
+  covers_other s c = in_all (λ row. Shares row s) rows' (λ row i. all_in (λ r. Shares r s) rows row c (f row i))
+
+plan_other : (rows rows' : List ℕ) → ((s : ℕ) → Among rows s → Among rows' s) → ((s : ℕ) → Among rows' s → Among rows s)
+    → (p : ℕ) → Plan rows p → Plan rows' p
+plan_other rows rows' f g p (c, least) = (covers_other rows rows' g p c, λ t w d. least t w (covers_other rows' rows f t d))
+
+same_plans : (page rows rows' plans plans' : List ℕ) → IsMatrixOf page rows → IsMatrixOf page rows' → Lists rows plans → Lists rows' plans' → plans ≡ plans'
+same_plans page rows rows' plans plans' is is' l k =
+    rising_same plans plans' l.rising k.rising
+    (λ p i. k.complete p (plan_other rows rows' there back p (all_in (Plan rows) plans p l.sound i)))
+    (λ p i. l.complete p (plan_other rows' rows back there p (all_in (Plan rows') plans' p k.sound i)))
+  where
+    there : (s : ℕ) → Among rows s → Among rows' s
+    there = row_other page rows rows' is is'
+
+    back : (s : ℕ) → Among rows' s → Among rows s
+    back = row_other page rows' rows is' is
+
+-- ---- the rows of an accepted page
+
+module _ (page rows : List ℕ) (width : ℕ) (accepted : refused_page page width ≡ None) (bytes : (i : ℕ) → Fits w8 (get_or page i 0)) (is : IsMatrixOf page rows) where
+  book_rows : List ℕ
+  book_rows = matrix_of codes (page_meaning page width).held
+
+  narrow : Every (λ row. row < 2 ^ width) book_rows
+  unfolding book_rows
+  narrow = matrix_narrow codes (page_meaning page width) (sound page width accepted bytes)
+
+  -- they have no test past the width
+  pub page_narrow : Every (λ row. row < 2 ^ width) rows
+  unfolding book_rows
+  page_narrow =
+      in_all (λ row. row < 2 ^ width) rows
+      (λ row i. all_in (λ r. r < 2 ^ width) book_rows row narrow (row_other page rows book_rows is (page_rows page width accepted bytes) row i))
+
+  pub page_fair : Fair width
+  page_fair = (sound page width accepted bytes).wide
+
+  -- the plans of the book that the page is are theirs
+  pub book_plans : (plans : List ℕ) → Lists rows plans → plans_by codes (page_meaning page width) ≡ plans
+  unfolding book_rows
+  book_plans plans l =
+      same_plans page book_rows rows (plans_by codes (page_meaning page width)) plans (page_rows page width accepted bytes) is (page_plans page width accepted bytes) l
