@@ -32,23 +32,30 @@ pub fn check<R: Reading>(slots: &[Slot], cells: &[R], width: u32) -> Result<(), 
 
 impl<'a, R: Reading> SlotBook<'a, R> {
     // Opens an empty book: the memory is emptied. Where the check refuses, the book has no slots.
-    #[tactic(auto, using(crate::proofs::Opening::none_valid, crate::proofs::Opening::emptied_valid, crate::proofs::Opening::none_gathered))]
     pub fn new(slots: &'a mut [Slot], cells: &'a mut [R], width: u32) -> SlotBook<'a, R>
         ensures { Opened R.Reading.kind slots.entry cells.entry width result }
     {
-        if check(slots, cells, width).is_err() {
-            return SlotBook {
-                slots: &mut slots[..0],
-                cells: &mut cells[..0],
-                width: NARROWEST,
-            };
-        }
-        slots.fill(NO_SLOT);
-        blank_cells(cells);
-        SlotBook {
-            slots,
-            cells,
-            width,
-        }
+        open(slots, cells, width)
+    }
+}
+
+// Apart from the call above so that a wrong call there is refused by a fact, and not by this proof.
+#[tactic(auto, using(crate::proofs::Opening::none_valid, crate::proofs::Opening::emptied_valid, crate::proofs::Opening::none_gathered))]
+fn open<'a, R: Reading>(slots: &'a mut [Slot], cells: &'a mut [R], width: u32) -> SlotBook<'a, R>
+    ensures { Opened R.Reading.kind slots.entry cells.entry width result }
+{
+    if check(slots, cells, width).is_err() {
+        return SlotBook {
+            slots: &mut slots[..0],
+            cells: &mut cells[..0],
+            width: NARROWEST,
+        };
+    }
+    slots.fill(NO_SLOT);
+    blank_cells(cells);
+    SlotBook {
+        slots,
+        cells,
+        width,
     }
 }

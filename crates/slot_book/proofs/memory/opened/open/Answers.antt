@@ -1,5 +1,5 @@
 use Rattle.slot_book.proofs.Opening.{none_gathered}
-use Rattle.slot_book.proofs.memory.SlotBook.new.Goals as goal
+use Rattle.slot_book.proofs.memory.opened.open.Goals as goal
 use Rattle.std.proofs.Common.{arith}
 
 pub returns-then-is_err : goal.returns-then-is_err
