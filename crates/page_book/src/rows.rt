@@ -49,7 +49,8 @@ fn write_rows(page: &[u8], rows: &mut [u32]) -> usize
     count
 }
 
-// Writes the rows of a record with each earlier one from place `from` on, and answers the place after them.
+// Writes the rows of a record with each earlier one from place `from` on, and answers the place after them. Memory and place, and no part of
+// the memory lent for them: what stands in all of it afterwards is what the callers tell. The count steps only where two records differ.
 fn rows_with(earlier: &[Record], later: &Record, rows: &mut [u32], from: usize) -> usize
     requires { from + length earlier.now ≤ length rows.old }
     ensures count { result ≡ from + length (rows_after later.now earlier.now) }
@@ -77,6 +78,7 @@ fn row_of(other: &Record, later: &Record) -> u32
     ensures { result ≡ row_of_two other.now later.now }
 {
     let mut row = 0;
+    // over places and no readings: the test at a place counts 2 to the power of the place
     for place in 0..TESTS {
         if !compatible(code(other, place), code(later, place)) {
             row += 1 << place;
