@@ -4,14 +4,15 @@ use Rattle.bench.proofs.Serving.{covers_separates, separates_covers}
 use Rattle.bench.specs.Ledger.{Call, ledger_after}
 use Rattle.bench.specs.Promise.{SamePlans, Stands, untagged}
 use Rattle.books.specs.Meanings.{Meaning, Rec}
-use Rattle.covers.specs.Plans.{Covers, Plan}
+use Rattle.covers.proofs.Same.{same_lists}
+use Rattle.covers.specs.Plans.{Covers}
 use Rattle.covers.specs.Theorems.{Lists}
 use Rattle.matrix.proofs.Matrices.{matrix_is}
 use Rattle.matrix.specs.Apart.{Different, Separates, Tells, TellsAt}
 use Rattle.matrix.specs.Rows.{matrix_of}
 use Rattle.matrix.specs.Theorems.{IsMatrix}
 use Rattle.readings.specs.Kinds.{Kind, Lawful}
-use Rattle.sets.proofs.Members.{all_in, in_all, in_map, map_in, rising_same}
+use Rattle.sets.proofs.Members.{all_in, in_all, in_map, map_in}
 use Rattle.sets.specs.Lists.{Among}
 use Rattle.std.proofs.lemmas.List.Sorted.{IsPermutation-sym}
 use Rattle.std.proofs.ByRecursion.{all_shuffled}
@@ -69,17 +70,8 @@ module _ {R : Type 0} (kind : Kind R) where
         separates_covers kind (Different xs) rows is s
         (separates_like ys xs (IsPermutation-sym (map untagged xs) (map untagged ys) like) s (covers_separates kind (Different ys) rows' is' s c))
 
-    plan_like : (p : ℕ) → Plan rows p → Plan rows' p
-    plan_like p (c, least) = (covers_like p c, λ t w d. least t w (covers_back t d))
-
-    plan_back : (p : ℕ) → Plan rows' p → Plan rows p
-    plan_back p (c, least) = (covers_back p c, λ t w d. least t w (covers_like t d))
-
     pub same_plans : (plans plans' : List ℕ) → Lists rows plans → Lists rows' plans' → plans ≡ plans'
-    same_plans plans plans' l k =
-        rising_same plans plans' l.rising k.rising
-        (λ p i. k.complete p (plan_like p (all_in (Plan rows) plans p l.sound i)))
-        (λ p i. l.complete p (plan_back p (all_in (Plan rows') plans' p k.sound i)))
+    same_plans = same_lists rows rows' covers_like covers_back
 
   -- two histories, each with the promise, of which the ledgers are alike
   pub histories_agree : Lawful R kind → (start start' : Meaning R) (calls calls' : List (Call R)) (numbers numbers' : List ℕ) (m m' : Meaning R)

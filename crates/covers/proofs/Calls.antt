@@ -1,5 +1,5 @@
 -- The cover call: its faults as computed and as meant, and its list.
-use Rattle.std.proofs.Common.{◌≡◌, ℕ, suc, ◌+◌, ◌-◌, ◌*◌, ◌/◌, ◌%◌, ◌^◌, ◌<◌, ◌≤◌, Bool, true, false, cond, ◌&&◌, ltb, leb, ◌≢◌, ◌⊎◌, List, [], ◌∷◌, ◌++◌, length, get_or, take, drop, replicate, Some, None, Option, Ok, Err, sym, refl, ap, ◌∙◌, subst, inl, inr, zero-add, zero-mul, arith, pow_pos, shr-shr, MatchOption}
+use Rattle.std.proofs.Common.{◌≡◌, ℕ, suc, ◌+◌, ◌-◌, ◌*◌, ◌/◌, ◌%◌, ◌^◌, ◌<◌, ◌≤◌, Bool, true, false, cond, ◌&&◌, ltb, leb, ◌≢◌, ◌⊎◌, List, [], ◌∷◌, ◌++◌, length, get_or, take, drop, replicate, Some, None, Option, Ok, Err, sym, refl, ap, ◌∙◌, subst, inl, inr, zero-add, zero-mul, arith, pow_pos, shr-shr, MatchOption, MatchResult, Result}
 use Rattle.sets.proofs.Bits.{some_bit}
 use Rattle.covers.proofs.PlanLists.{plans_list}
 use Rattle.sets.proofs.Places.{below_place}
@@ -15,6 +15,7 @@ use Rattle.std.proofs.ByRecursion.{All-get_or, All-weaker}
 use Rattle.std.proofs.lemmas.List.{at_drop_all, at_drop_more, drop-replicate}
 use Rattle.std.proofs.lemmas.Bool.{both_ways, and_from, and_left, and_parts, and_right, cond-false, cond-true, le-leb, leb-true, lt-leb, lt-ltb, le-ltb, ltb-true, ltb-false}
 use Rattle.std.specs.List.{AllByRecursion as Every}
+use Rattle.std.specs.Result.{IsOk}
 use lib.ListN.{length-replicate}
 use lib.Seq.{sets, sets-eq}
 
@@ -171,3 +172,9 @@ listed_not places plans h = sym (cond-false (leb (length plans) places) (plans +
 pub not_refused : (width : ℕ) (rows : List ℕ) (fault : CoverFault) → Fair width → Every (λ row. row < 2 ^ width) rows → RefusedWith width rows fault → ⊥
 not_refused width rows Width fair small h = h fair
 not_refused width rows (Row k) fair small (f, l, w, before) = narrow width (get_or rows k 0) (All-get_or (λ row. row < 2 ^ width) rows k 0 l small) w
+
+-- so the call answers
+pub cover_answers : (width : ℕ) (rows : List ℕ) (r : Result (ℕ × ℕ) CoverFault) → Fair width → Every (λ row. row < 2 ^ width) rows
+    → MatchResult r (λ _. Opened width rows) (RefusedWith width rows) → IsOk r
+cover_answers width rows (Ok answer) fair narrow h = refl
+cover_answers width rows (Err fault) fair narrow h = absurd (not_refused width rows fault fair narrow h)

@@ -4,3 +4,4 @@ pub mod PlanLists
 pub mod Scans
 pub mod Divisions
 pub mod Calls
+pub mod Same

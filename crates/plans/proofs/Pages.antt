@@ -1,7 +1,8 @@
--- The matrix of the book that a page is, told in the bytes of the page.
+-- The matrix of the book that a page is, told in the bytes of the page; every matrix of the page has its plans.
 use Rattle.bench.proofs.Known.{all_plans}
 use Rattle.bench.specs.Promise.{plans_by}
-use Rattle.covers.specs.Plans.{Covers, Plan}
+use Rattle.covers.proofs.Same.{same_lists}
+use Rattle.covers.specs.Plans.{Covers}
 use Rattle.covers.specs.Theorems.{Fair, Lists}
 use Rattle.matrix.proofs.Matrices.{matrix_is}
 use Rattle.matrix.proofs.Sizes.{matrix_narrow}
@@ -23,7 +24,7 @@ use Rattle.page_book.specs.Places.{codes_at, page_meaning, places, record_at, va
 use Rattle.page_book.specs.Rows.{Compatible, Differ, IsMatrix as IsMatrixOf, OfTwo, TellApart}
 use Rattle.readings.specs.Codes.{codes}
 use Rattle.sets.proofs.Bits.{within_same}
-use Rattle.sets.proofs.Members.{all_in, in_all, rising_same}
+use Rattle.sets.proofs.Members.{all_in, in_all}
 use Rattle.sets.proofs.Places.{below_place}
 use Rattle.sets.specs.Lists.{Among}
 use Rattle.sets.specs.Sets.{Shares, Within}
@@ -241,25 +242,12 @@ module _ (page : List ℕ) where
       let r = is'.1 p.0 p.1 p.2 p.3 p.4 in
       subst (Among rows') (apart_same p.0 p.1 r.0 s r.2 p.5) (among rows' r.0 r.1)
 
-module _ (rows rows' : List ℕ) (f : (s : ℕ) → Among rows' s → Among rows s) where
-  covers_other : (s : ℕ) → Covers rows s → Covers rows' s
-  covers_other s c = in_all (λ row. Shares row s) rows' (λ row i. all_in (λ r. Shares r s) rows row c (f row i))
+  covers_other : (rows rows' : List ℕ) → IsMatrixOf page rows → IsMatrixOf page rows' → (s : ℕ) → Covers rows s → Covers rows' s
+  covers_other rows rows' is is' s c =
+      in_all (λ row. Shares row s) rows' (λ row i. all_in (λ r. Shares r s) rows row c (row_other rows' rows is' is row i))
 
-plan_other : (rows rows' : List ℕ) → ((s : ℕ) → Among rows s → Among rows' s) → ((s : ℕ) → Among rows' s → Among rows s)
-    → (p : ℕ) → Plan rows p → Plan rows' p
-plan_other rows rows' f g p (c, least) = (covers_other rows rows' g p c, λ t w d. least t w (covers_other rows' rows f t d))
-
-same_plans : (page rows rows' plans plans' : List ℕ) → IsMatrixOf page rows → IsMatrixOf page rows' → Lists rows plans → Lists rows' plans' → plans ≡ plans'
-same_plans page rows rows' plans plans' is is' l k =
-    rising_same plans plans' l.rising k.rising
-    (λ p i. k.complete p (plan_other rows rows' there back p (all_in (Plan rows) plans p l.sound i)))
-    (λ p i. l.complete p (plan_other rows' rows back there p (all_in (Plan rows') plans' p k.sound i)))
-  where
-    there : (s : ℕ) → Among rows s → Among rows' s
-    there = row_other page rows rows' is is'
-
-    back : (s : ℕ) → Among rows' s → Among rows s
-    back = row_other page rows' rows is' is
+  same_plans : (rows rows' plans plans' : List ℕ) → IsMatrixOf page rows → IsMatrixOf page rows' → Lists rows plans → Lists rows' plans' → plans ≡ plans'
+  same_plans rows rows' plans plans' is is' = same_lists rows rows' (covers_other rows rows' is is') (covers_other rows' rows is' is) plans plans'
 
 -- ---- the rows of an accepted page
 
